@@ -25,10 +25,10 @@ pub mod statements;
 pub mod step;
 pub mod tables;
 
+pub use lua_basic::charges::ENTRY_CHARGE;
 pub use lua_basic::texts::text_in;
 pub use lua_basic::values::single;
 pub use lua_basic::{ClosureKind, Left, Store, TextId, Value};
-pub use lua_number::NumberFault;
 pub use lua_stack::activation::Level;
 pub use lua_stack::opening::{open, open_all};
 pub use lua_stack::raising::{raise_quote, raise_text};

@@ -18,6 +18,7 @@ ghost use Rattle.lua_arms.specs.Paid.{paid_seen, PaidOf, IfSpent};
 use crate::calls::call;
 use crate::step::{Failure, Paid, Step};
 use crate::tables::handler;
+use lua_basic::charges::ENTRY_CHARGE;
 use lua_basic::{Left, Store, TableId, Value};
 use lua_code::NoMemory;
 use lua_stack::values::{is_function, is_nil};
@@ -86,7 +87,7 @@ pub fn set_entry<'m>(
         return Ok(Paid::Goes(Step::Fails(line, Failure::NilKey)));
     }
     if is_new(store, table, key, value) {
-        if !left.take_steps(4) {
+        if !left.take_steps(ENTRY_CHARGE) {
             return Ok(Paid::Spent(Which::Steps));
         }
         let focus = put(alloc, store, table, key, value)?;

@@ -18,7 +18,9 @@ use std::alloc::Global;
 /// The first of these arguments, where it is a table.
 fn table_in(given: &[Value]) -> Option<TableId>
     ensures of { (s : StoreView) → AllOf s given.now → IfSome result (IsTableOf s) }
-    ensures table { (texts : List (List ℕ)) (n : ℕ) (function : Bytes) → meaning.a_table n function (values_seen texts given.now) ≡ found_table n function (values_seen texts given.now) result }
+    ensures table { (texts : List (List ℕ)) (n : ℕ) (function : Bytes)
+        → meaning.a_table n function (values_seen texts given.now)
+        ≡ found_table n function (values_seen texts given.now) result }
 {
     match given {
         [Value::Table(id), ..] => Some(*id),
@@ -35,10 +37,13 @@ pub fn a_table(
     given: &[Value],
 ) -> Result<TableId, Stop>
     requires { AllOf store.old given.now }
-    ensures found { IfOk result (λ id. meaning.a_table n function.now (values_seen store.old.texts given.now) ≡ Ok id.at) }
+    ensures found { IfOk result (λ id.
+        meaning.a_table n function.now (values_seen store.old.texts given.now) ≡ Ok id.at) }
     ensures table { IfOk result (IsTableOf store.new) }
     ensures same { OnOk result (store.new ≡ store.old) }
-    ensures refused { IfErr result (Refuses (meaning.a_table n function.now (values_seen store.old.texts given.now)) store.old store.new) }
+    ensures refused { IfErr result (Refuses
+        (meaning.a_table n function.now (values_seen store.old.texts given.now)) store.old
+        store.new) }
     ensures of { IfErr result (StopOf store.new) }
     ensures later { IsLater store.old store.new }
 {
@@ -57,9 +62,12 @@ pub fn a_number(
     given: &[Value],
 ) -> Result<i64, Stop>
     requires { AllOf store.old given.now }
-    ensures found { IfOk result (λ z. meaning.a_number n function.now (values_seen store.old.texts given.now) ≡ Ok z) }
+    ensures found { IfOk result (λ z.
+        meaning.a_number n function.now (values_seen store.old.texts given.now) ≡ Ok z) }
     ensures same { OnOk result (store.new ≡ store.old) }
-    ensures refused { IfErr result (Refuses (meaning.a_number n function.now (values_seen store.old.texts given.now)) store.old store.new) }
+    ensures refused { IfErr result (Refuses
+        (meaning.a_number n function.now (values_seen store.old.texts given.now)) store.old
+        store.new) }
     ensures of { IfErr result (StopOf store.new) }
     ensures later { IsLater store.old store.new }
 {
@@ -79,9 +87,12 @@ pub fn number_or(
     given: &[Value],
 ) -> Result<i64, Stop>
     requires { AllOf store.old given.now }
-    ensures found { IfOk result (λ z. meaning.number_or default n function.now (values_seen store.old.texts given.now) ≡ Ok z) }
+    ensures found { IfOk result (λ z.
+        meaning.number_or default n function.now (values_seen store.old.texts given.now) ≡ Ok z) }
     ensures same { OnOk result (store.new ≡ store.old) }
-    ensures refused { IfErr result (Refuses (meaning.number_or default n function.now (values_seen store.old.texts given.now)) store.old store.new) }
+    ensures refused { IfErr result (Refuses
+        (meaning.number_or default n function.now (values_seen store.old.texts given.now)) store.old
+        store.new) }
     ensures of { IfErr result (StopOf store.new) }
     ensures later { IsLater store.old store.new }
 {
@@ -100,9 +111,13 @@ pub fn a_text<'b>(
     given: &[Value],
 ) -> Result<TextIn<'b>, Stop>
     requires { AllOf store.old given.now }
-    ensures found { IfOk result (λ text. meaning.a_text n function.now (values_seen store.old.texts given.now) ≡ Ok (text_bytes text)) }
+    ensures found { IfOk result (λ text.
+        meaning.a_text n function.now (values_seen store.old.texts given.now)
+        ≡ Ok (text_bytes text)) }
     ensures same { OnOk result (store.new ≡ store.old) }
-    ensures refused { IfErr result (Refuses (meaning.a_text n function.now (values_seen store.old.texts given.now)) store.old store.new) }
+    ensures refused { IfErr result (Refuses
+        (meaning.a_text n function.now (values_seen store.old.texts given.now)) store.old
+        store.new) }
     ensures of { IfErr result (StopOf store.new) }
     ensures later { IsLater store.old store.new }
 {

@@ -17,7 +17,8 @@ use std::alloc::Global;
 /// `type(v)`: the name of its kind.
 pub fn kind(alloc: Global, store: &mut Store, args: &[Value]) -> Result<List<Value>, Stop>
     requires { AllOf store.old args.now }
-    ensures answer { Free (meaning.kind (values_seen store.old.texts args.now) store.old.heap) store.new result }
+    ensures answer { Free (meaning.kind (values_seen store.old.texts args.now) store.old.heap)
+        store.new result }
     ensures of { AnswerOf store.new result }
     ensures later { IsLater store.old store.new }
 {
@@ -73,7 +74,8 @@ fn behind(values: &[Value], n: usize) -> &[Value]
 /// How many values there are, as a value.
 fn counted(values: &[Value]) -> Value
     ensures of { (s : StoreView) → IsOf s result }
-    ensures value { (texts : List (List ℕ)) → seen texts result ≡ kind.Number (pos (length values.now)) }
+    ensures value { (texts : List (List ℕ))
+        → seen texts result ≡ kind.Number (pos (length values.now)) }
 {
     Value::Number(values.len() as i64)
 }
@@ -86,7 +88,9 @@ fn from_place(
     values: &[Value],
 ) -> Result<List<Value>, Stop>
     requires { AllOf store.old values.now }
-    ensures answer { Free (meaning.from_place place (values_seen store.old.texts values.now) store.old.heap) store.new result }
+    ensures answer { Free
+        (meaning.from_place place (values_seen store.old.texts values.now) store.old.heap)
+        store.new result }
     ensures of { AnswerOf store.new result }
     ensures later { IsLater store.old store.new }
 {
@@ -102,7 +106,8 @@ fn from_place(
 /// `select(n, ...)`: the arguments from number n on, or their count for `#`.
 pub fn select(alloc: Global, store: &mut Store, args: &[Value]) -> Result<List<Value>, Stop>
     requires { AllOf store.old args.now }
-    ensures answer { Free (meaning.select (values_seen store.old.texts args.now) store.old.heap) store.new result }
+    ensures answer { Free (meaning.select (values_seen store.old.texts args.now) store.old.heap)
+        store.new result }
     ensures of { AnswerOf store.new result }
     ensures later { IsLater store.old store.new }
 {

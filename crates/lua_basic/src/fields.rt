@@ -12,7 +12,8 @@ use lua_store::{Store, TextId, Value};
 pub fn metatable(store: &Store, value: Value) -> Value
     requires { IsOf store.now value }
     ensures of { IsOf store.now result }
-    ensures value { seen store.now.texts result ≡ meaning.metatable store.now.heap (seen store.now.texts value) }
+    ensures value { seen store.now.texts result
+        ≡ meaning.metatable store.now.heap (seen store.now.texts value) }
 {
     match value {
         Value::Table(table) => store.meta(table),
@@ -31,7 +32,8 @@ pub fn field_at(store: &Store, of: Value, name: TextId) -> Value
     requires of { IsOf store.now of }
     requires name { IsTextOf store.now name }
     ensures of { IsOf store.now result }
-    ensures value { seen store.now.texts result ≡ meaning.field store.now.heap (seen store.now.texts of) (text_at store.now.texts name.at) }
+    ensures value { seen store.now.texts result
+        ≡ meaning.field store.now.heap (seen store.now.texts of) (text_at store.now.texts name.at) }
 {
     match of {
         Value::Table(table) => store.get(table, Value::Text(name)),
@@ -49,9 +51,11 @@ pub fn field_at(store: &Store, of: Value, name: TextId) -> Value
 pub fn field(store: &mut Store, of: Value, name: &[u8]) -> Result<Value, NoMemory>
     requires { IsOf store.old of }
     ensures of { IfOk result (IsOf store.new) }
-    ensures value { IfOk result (λ v. seen store.new.texts v ≡ meaning.field store.old.heap (seen store.old.texts of) name.now) }
+    ensures value { IfOk result (λ v.
+        seen store.new.texts v ≡ meaning.field store.old.heap (seen store.old.texts of) name.now) }
     ensures heap { store.new.heap ≡ store.old.heap }
-    ensures stays { (v : own.Value) → IsOf store.old v → IsOf store.new v × (seen store.new.texts v ≡ seen store.old.texts v) }
+    ensures stays { (v : own.Value) → IsOf store.old v
+        → IsOf store.new v × (seen store.new.texts v ≡ seen store.old.texts v) }
     ensures later { IsLater store.old store.new }
 {
     let name = store.text(name)?;

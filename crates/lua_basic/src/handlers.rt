@@ -17,7 +17,9 @@ use std::alloc::Global;
 /// `getmetatable(v)`: the field `__metatable` of the metatable, if that is there, else the metatable or nil.
 pub fn get_metatable(alloc: Global, store: &mut Store, args: &[Value]) -> Result<List<Value>, Stop>
     requires { AllOf store.old args.now }
-    ensures answer { Free (meaning.get_metatable (values_seen store.old.texts args.now) store.old.heap) store.new result }
+    ensures answer { Free
+        (meaning.get_metatable (values_seen store.old.texts args.now) store.old.heap)
+        store.new result }
     ensures of { AnswerOf store.new result }
     ensures later { IsLater store.old store.new }
 {
@@ -34,7 +36,8 @@ pub fn get_metatable(alloc: Global, store: &mut Store, args: &[Value]) -> Result
 /// The first of these arguments, where it can be a metatable: a table, nil, or nothing.
 fn meta_in(given: &[Value]) -> Option<Value>
     ensures of { (s : StoreView) → AllOf s given.now → IfSome result (IsOf s) }
-    ensures meta { (texts : List (List ℕ)) → meaning.a_metatable (values_seen texts given.now) ≡ found_meta texts given.now result }
+    ensures meta { (texts : List (List ℕ))
+        → meaning.a_metatable (values_seen texts given.now) ≡ found_meta texts given.now result }
 {
     match given {
         [] => Some(Value::Nil),
@@ -47,10 +50,12 @@ fn meta_in(given: &[Value]) -> Option<Value>
 /// The argument that is to be a metatable.
 fn a_metatable(alloc: Global, store: &mut Store, given: &[Value]) -> Result<Value, Stop>
     requires { AllOf store.old given.now }
-    ensures found { IfOk result (λ v. meaning.a_metatable (values_seen store.old.texts given.now) ≡ Ok (seen store.old.texts v)) }
+    ensures found { IfOk result (λ v.
+        meaning.a_metatable (values_seen store.old.texts given.now) ≡ Ok (seen store.old.texts v)) }
     ensures value { IfOk result (IsOf store.new) }
     ensures same { OnOk result (store.new ≡ store.old) }
-    ensures refused { IfErr result (Refuses (meaning.a_metatable (values_seen store.old.texts given.now)) store.old store.new) }
+    ensures refused { IfErr result (Refuses
+        (meaning.a_metatable (values_seen store.old.texts given.now)) store.old store.new) }
     ensures of { IfErr result (StopOf store.new) }
     ensures later { IsLater store.old store.new }
 {
@@ -69,7 +74,9 @@ fn with_metatable(
 ) -> Result<List<Value>, Stop>
     requires table { IsTableOf store.old table }
     requires meta { IsOf store.old meta }
-    ensures answer { Free (meaning.with_metatable table.at (seen store.old.texts meta) store.old.heap) store.new result }
+    ensures answer { Free
+        (meaning.with_metatable table.at (seen store.old.texts meta) store.old.heap)
+        store.new result }
     ensures of { AnswerOf store.new result }
     ensures later { IsLater store.old store.new }
 {
@@ -89,7 +96,9 @@ fn with_metatable(
 /// `setmetatable(t, m)` gives t, whose metatable is then m.
 pub fn set_metatable(alloc: Global, store: &mut Store, args: &[Value]) -> Result<List<Value>, Stop>
     requires { AllOf store.old args.now }
-    ensures answer { Free (meaning.set_metatable (values_seen store.old.texts args.now) store.old.heap) store.new result }
+    ensures answer { Free
+        (meaning.set_metatable (values_seen store.old.texts args.now) store.old.heap)
+        store.new result }
     ensures of { AnswerOf store.new result }
     ensures later { IsLater store.old store.new }
 {

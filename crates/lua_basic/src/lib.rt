@@ -2,6 +2,7 @@
 //!
 //! Read `specs/Seen.antt` first: what an answer is seen as, and when it is the meaning's own.
 //!
+//! - `charges`: what things cost, in steps
 //! - `stop`: why a function gives no values
 //! - `values`: values, and lists of values
 //! - `texts`: the text that a value is taken for
@@ -19,6 +20,7 @@
 #![tactic(auto)]
 
 pub mod arguments;
+pub mod charges;
 pub mod choosing;
 pub mod fields;
 pub mod handlers;

@@ -7,7 +7,7 @@ ghost use Rattle.lua_basic.specs.Seen.{values_seen, Stops, StopOf};
 
 use crate::stop::Stop;
 use crate::values::{first, kind_of};
-use lua_number::NoMemory;
+use lua_number::{NoMemory, NumberFault};
 use lua_store::{Store, Value};
 use std::alloc::Global;
 
@@ -43,7 +43,9 @@ fn got(given: &[Value]) -> &'static [u8]
 
 /// That another kind was wanted than was given.
 pub fn expected(alloc: Global, wanted: &[u8], given: &[Value]) -> Result<Vec<u8>, NoMemory>
-    ensures { IfOk result (λ text. (texts : List (List ℕ)) → text.items ≡ meaning.expected wanted.now (values_seen texts given.now)) }
+    ensures { IfOk result (λ text.
+        (texts : List (List ℕ))
+        → text.items ≡ meaning.expected wanted.now (values_seen texts given.now)) }
 {
     let mut text = begin(alloc, wanted)?;
     add(&mut text, b" expected, got ")?;
@@ -66,6 +68,17 @@ pub fn bad_argument(alloc: Global, n: u8, function: &[u8], why: &[u8]) -> Result
     Ok(text)
 }
 
+/// Why a calculation gave no number.
+pub fn number_fault(fault: NumberFault) -> &'static [u8]
+    ensures { result.now ≡ meaning.number_fault fault }
+{
+    match fault {
+        NumberFault::OutOfRange => b"number out of range",
+        NumberFault::NotWhole => b"quotient is not whole",
+        NumberFault::ByZero => b"division by zero",
+    }
+}
+
 /// This message is raised.
 pub fn fail(store: &mut Store, message: &[u8]) -> Stop
     ensures raises { Stops (fails store.old.heap message.now) store.new result }
@@ -80,7 +93,8 @@ pub fn fail(store: &mut Store, message: &[u8]) -> Stop
 
 /// An argument is bad. Arguments are counted from 1.
 pub fn refuse(alloc: Global, store: &mut Store, n: u8, function: &[u8], why: &[u8]) -> Stop
-    ensures raises { Stops (fails store.old.heap (meaning.bad_argument n function.now why.now)) store.new result }
+    ensures raises { Stops (fails store.old.heap (meaning.bad_argument n function.now why.now))
+        store.new result }
     ensures of { StopOf store.new result }
     ensures later { IsLater store.old store.new }
 {
@@ -99,7 +113,11 @@ pub fn refuse_kind(
     wanted: &[u8],
     given: &[Value],
 ) -> Stop
-    ensures raises { Stops (fails store.old.heap (meaning.bad_argument n function.now (meaning.expected wanted.now (values_seen store.old.texts given.now)))) store.new result }
+    ensures raises { Stops
+        (fails store.old.heap
+        (meaning.bad_argument n function.now
+        (meaning.expected wanted.now (values_seen store.old.texts given.now))))
+        store.new result }
     ensures of { StopOf store.new result }
     ensures later { IsLater store.old store.new }
 {

@@ -41,7 +41,9 @@ fn digits_in(alloc: Global, store: &mut Store, text: &[u8], base: i64) -> Result
 /// The number that a value is in a base: any value in base 10, a text in another one.
 fn in_base(alloc: Global, store: &mut Store, args: &[Value], base: i64) -> Result<List<Value>, Stop>
     requires { AllOf store.old args.now }
-    ensures answer { Free (meaning.in_base (values_seen store.old.texts args.now) base store.old.heap) store.new result }
+    ensures answer { Free
+        (meaning.in_base (values_seen store.old.texts args.now) base store.old.heap)
+        store.new result }
     ensures of { AnswerOf store.new result }
     ensures later { IsLater store.old store.new }
 {
@@ -57,7 +59,8 @@ fn in_base(alloc: Global, store: &mut Store, args: &[Value], base: i64) -> Resul
 /// `tonumber(v, base)`: the number, or nil where the value is none in that base.
 pub fn to_number(alloc: Global, store: &mut Store, args: &[Value]) -> Result<List<Value>, Stop>
     requires { AllOf store.old args.now }
-    ensures answer { Free (meaning.to_number (values_seen store.old.texts args.now) store.old.heap) store.new result }
+    ensures answer { Free (meaning.to_number (values_seen store.old.texts args.now) store.old.heap)
+        store.new result }
     ensures of { AnswerOf store.new result }
     ensures later { IsLater store.old store.new }
 {

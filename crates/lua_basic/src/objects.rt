@@ -69,7 +69,8 @@ fn method_or_nil(method: Option<Library>) -> Value
 pub fn object_field(store: &Store, key: Value) -> Value
     requires { IsOf store.now key }
     ensures of { IsOf store.now result }
-    ensures value { seen store.now.texts result ≡ meaning.field_of_object (seen store.now.texts key) }
+    ensures value { seen store.now.texts result
+        ≡ meaning.field_of_object (seen store.now.texts key) }
 {
     match key {
         Value::Text(name) => method_or_nil(method_named(store.bytes(name))),

@@ -12,7 +12,8 @@ use std::alloc::Global;
 /// `assert(v, m)`: all its arguments, or m is raised, without a place.
 pub fn assert(alloc: Global, store: &mut Store, args: &[Value]) -> Result<List<Value>, Stop>
     requires { AllOf store.old args.now }
-    ensures answer { Free (meaning.assert (values_seen store.old.texts args.now) store.old.heap) store.new result }
+    ensures answer { Free (meaning.assert (values_seen store.old.texts args.now) store.old.heap)
+        store.new result }
     ensures of { AnswerOf store.new result }
     ensures later { IsLater store.old store.new }
 {
@@ -31,7 +32,8 @@ pub fn assert(alloc: Global, store: &mut Store, args: &[Value]) -> Result<List<V
 /// `error(m, level)`: m is raised at that level, or else at level 1.
 pub fn error(alloc: Global, store: &mut Store, args: &[Value]) -> Result<List<Value>, Stop>
     requires { AllOf store.old args.now }
-    ensures answer { Free (meaning.error (values_seen store.old.texts args.now) store.old.heap) store.new result }
+    ensures answer { Free (meaning.error (values_seen store.old.texts args.now) store.old.heap)
+        store.new result }
     ensures of { AnswerOf store.new result }
     ensures later { IsLater store.old store.new }
 {

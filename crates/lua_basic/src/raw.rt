@@ -7,6 +7,7 @@ ghost use Rattle.lua_store.specs.Parts.{IsOf, IsTableOf, IsLater};
 ghost use Rattle.lua_basic.specs.Seen.{values_seen, AllOf, Free, Paid, AnswerOf};
 
 use crate::arguments::a_table;
+use crate::charges::ENTRY_CHARGE;
 use crate::messages::fail;
 use crate::stop::{Stop, pay};
 use crate::values::{first, is_nil, second, single, third};
@@ -17,7 +18,8 @@ use std::alloc::Global;
 /// `rawequal(a, b)`: whether they are the same value.
 pub fn raw_equal(alloc: Global, store: &mut Store, args: &[Value]) -> Result<List<Value>, Stop>
     requires { AllOf store.old args.now }
-    ensures answer { Free (meaning.raw_equal (values_seen store.old.texts args.now) store.old.heap) store.new result }
+    ensures answer { Free (meaning.raw_equal (values_seen store.old.texts args.now) store.old.heap)
+        store.new result }
     ensures of { AnswerOf store.new result }
     ensures later { IsLater store.old store.new }
 {
@@ -29,7 +31,8 @@ pub fn raw_equal(alloc: Global, store: &mut Store, args: &[Value]) -> Result<Lis
 /// `rawget(t, k)`.
 pub fn raw_get(alloc: Global, store: &mut Store, args: &[Value]) -> Result<List<Value>, Stop>
     requires { AllOf store.old args.now }
-    ensures answer { Free (meaning.raw_get (values_seen store.old.texts args.now) store.old.heap) store.new result }
+    ensures answer { Free (meaning.raw_get (values_seen store.old.texts args.now) store.old.heap)
+        store.new result }
     ensures of { AnswerOf store.new result }
     ensures later { IsLater store.old store.new }
 {
@@ -43,12 +46,14 @@ pub fn raw_get(alloc: Global, store: &mut Store, args: &[Value]) -> Result<List<
 fn set_charge(store: &Store, table: TableId, key: Value, value: Value) -> u64
     requires table { IsTableOf store.now table }
     requires key { IsOf store.now key }
-    ensures { result ≡ meaning.set_charge (table_at store.now.heap table.at).entries (seen store.now.texts key) (seen store.now.texts value) }
+    ensures { result
+        ≡ meaning.set_charge (table_at store.now.heap table.at).entries (seen store.now.texts key)
+        (seen store.now.texts value) }
 {
     if store.has(table, key) || is_nil(value) {
         0
     } else {
-        4
+        ENTRY_CHARGE
     }
 }
 
@@ -64,7 +69,10 @@ fn with_entry(
     requires table { IsTableOf store.old table }
     requires key { IsOf store.old key }
     requires value { IsOf store.old value }
-    ensures answer { Paid (meaning.with_entry table.at (seen store.old.texts key) (seen store.old.texts value) store.old.heap) store.old left.old store.new left.new result }
+    ensures answer { Paid
+        (meaning.with_entry table.at (seen store.old.texts key) (seen store.old.texts value)
+        store.old.heap)
+        store.old left.old store.new left.new result }
     ensures of { AnswerOf store.new result }
     ensures later { IsLater store.old store.new }
 {
@@ -91,7 +99,8 @@ pub fn raw_set(
     args: &[Value],
 ) -> Result<List<Value>, Stop>
     requires { AllOf store.old args.now }
-    ensures answer { Paid (meaning.raw_set (values_seen store.old.texts args.now) store.old.heap) store.old left.old store.new left.new result }
+    ensures answer { Paid (meaning.raw_set (values_seen store.old.texts args.now) store.old.heap)
+        store.old left.old store.new left.new result }
     ensures of { AnswerOf store.new result }
     ensures later { IsLater store.old store.new }
 {

@@ -36,7 +36,8 @@ pub fn text_in<'b>(
     value: Value,
 ) -> Result<Option<TextIn<'b>>, NoMemory>
     requires { IsOf store.now value }
-    ensures { IfOk result (λ text. option_map text_bytes text ≡ meaning.text_in (seen store.now.texts value)) }
+    ensures { IfOk result (λ text.
+        option_map text_bytes text ≡ meaning.text_in (seen store.now.texts value)) }
 {
     match value {
         Value::Number(n) => {

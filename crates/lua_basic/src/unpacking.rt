@@ -19,7 +19,8 @@ use std::alloc::Global;
 
 /// How many whole numbers there are from one to another, or None for 2^64.
 fn count_between(first: i64, last: i64) -> Option<u64>
-    ensures count { MatchOption result (meaning.count_between first last ≡ 2 ^ 64) (λ n. meaning.count_between first last ≡ n) }
+    ensures count { MatchOption result (meaning.count_between first last ≡ 2 ^ 64) (λ n.
+        meaning.count_between first last ≡ n) }
     ensures within { IfSome result (λ n. (first +ℤ pos n) ≤ℤ pos 9223372036854775808) }
 {
     if last < first {
@@ -55,7 +56,8 @@ fn value_at(store: &Store, table: TableId, first: i64, offset: u64) -> Value
     requires table { IsTableOf store.now table }
     requires within { (first +ℤ pos offset) <ℤ pos 9223372036854775808 }
     ensures of { IsOf store.now result }
-    ensures value { seen store.now.texts result ≡ get (table_at store.now.heap table.at).entries (kind.Number (first +ℤ pos offset)) }
+    ensures value { seen store.now.texts result
+        ≡ get (table_at store.now.heap table.at).entries (kind.Number (first +ℤ pos offset)) }
 {
     store.get(table, Value::Number(number_at(first, offset)))
 }
@@ -70,7 +72,9 @@ fn entries_from(
 ) -> Result<List<Value>, NoMemory>
     requires table { IsTableOf store.now table }
     requires within { (first +ℤ pos count) ≤ℤ pos 9223372036854775808 }
-    ensures values { IfOk result (λ values. values_seen store.now.texts values ≡ meaning.entries_from count first (table_at store.now.heap table.at).entries) }
+    ensures values { IfOk result (λ values.
+        values_seen store.now.texts values
+        ≡ meaning.entries_from count first (table_at store.now.heap table.at).entries) }
     ensures of { IfOk result (AllOf store.now) }
 {
     let mut values = List::new(alloc);
@@ -90,7 +94,8 @@ fn unpack_between(
     last: i64,
 ) -> Result<List<Value>, Stop>
     requires { IsTableOf store.old table }
-    ensures answer { Paid (unpacked store.old.heap table.at first last) store.old left.old store.new left.new result }
+    ensures answer { Paid (unpacked store.old.heap table.at first last) store.old left.old
+        store.new left.new result }
     ensures of { AnswerOf store.new result }
     ensures same { store.new ≡ store.old }
 {
@@ -110,7 +115,8 @@ pub fn unpack(
     args: &[Value],
 ) -> Result<List<Value>, Stop>
     requires { AllOf store.old args.now }
-    ensures answer { Paid (meaning.unpack (values_seen store.old.texts args.now) store.old.heap) store.old left.old store.new left.new result }
+    ensures answer { Paid (meaning.unpack (values_seen store.old.texts args.now) store.old.heap)
+        store.old left.old store.new left.new result }
     ensures of { AnswerOf store.new result }
     ensures later { IsLater store.old store.new }
 {

@@ -61,7 +61,8 @@ pub fn kind_of(value: Value) -> &'static [u8]
 /// The first of a list, or nil.
 pub fn first(values: &[Value]) -> Value
     ensures of { (s : StoreView) → AllOf s values.now → IsOf s result }
-    ensures value { (texts : List (List ℕ)) → seen texts result ≡ meaning.first (values_seen texts values.now) }
+    ensures value { (texts : List (List ℕ))
+        → seen texts result ≡ meaning.first (values_seen texts values.now) }
 {
     match values {
         [first, ..] => *first,
@@ -72,7 +73,8 @@ pub fn first(values: &[Value]) -> Value
 /// The values behind the first one.
 pub fn rest(values: &[Value]) -> &[Value]
     ensures of { (s : StoreView) → AllOf s values.now → AllOf s result.now }
-    ensures values { (texts : List (List ℕ)) → values_seen texts result.now ≡ meaning.rest (values_seen texts values.now) }
+    ensures values { (texts : List (List ℕ))
+        → values_seen texts result.now ≡ meaning.rest (values_seen texts values.now) }
 {
     match values {
         [_, rest @ ..] => rest,
@@ -83,7 +85,8 @@ pub fn rest(values: &[Value]) -> &[Value]
 /// The second of a list, or nil.
 pub fn second(values: &[Value]) -> Value
     ensures of { (s : StoreView) → AllOf s values.now → IsOf s result }
-    ensures value { (texts : List (List ℕ)) → seen texts result ≡ meaning.second (values_seen texts values.now) }
+    ensures value { (texts : List (List ℕ))
+        → seen texts result ≡ meaning.second (values_seen texts values.now) }
 {
     first(rest(values))
 }
@@ -91,7 +94,8 @@ pub fn second(values: &[Value]) -> Value
 /// The third of a list, or nil.
 pub fn third(values: &[Value]) -> Value
     ensures of { (s : StoreView) → AllOf s values.now → IsOf s result }
-    ensures value { (texts : List (List ℕ)) → seen texts result ≡ meaning.third (values_seen texts values.now) }
+    ensures value { (texts : List (List ℕ))
+        → seen texts result ≡ meaning.third (values_seen texts values.now) }
 {
     second(rest(values))
 }

@@ -16,8 +16,12 @@ use std::alloc::Global;
 
 /// The key and the value of an entry, or nil alone at the end.
 fn key_and_value(alloc: Global, key: Value, value: Value) -> Result<List<Value>, NoMemory>
-    ensures values { IfOk result (λ values. (texts : List (List ℕ)) → values_seen texts values ≡ meaning.key_and_value (seen texts key) (seen texts value)) }
-    ensures of { IfOk result (λ values. (s : StoreView) → IsOf s key → IsOf s value → AllOf s values) }
+    ensures values { IfOk result (λ values.
+        (texts : List (List ℕ))
+        → values_seen texts values
+        ≡ meaning.key_and_value (seen texts key) (seen texts value)) }
+    ensures of { IfOk result (λ values.
+        (s : StoreView) → IsOf s key → IsOf s value → AllOf s values) }
 {
     if is_nil(key) {
         single(alloc, Value::Nil)
@@ -36,7 +40,10 @@ fn next_entry(
 ) -> Result<List<Value>, Stop>
     requires table { IsTableOf store.old table }
     requires key { IsOf store.old key }
-    ensures answer { Paid (meaning.next_entry store.old.heap (meaning.behind (seen store.old.texts key) (table_at store.old.heap table.at).entries)) store.old left.old store.new left.new result }
+    ensures answer { Paid
+        (meaning.next_entry store.old.heap
+        (meaning.behind (seen store.old.texts key) (table_at store.old.heap table.at).entries))
+        store.old left.old store.new left.new result }
     ensures of { AnswerOf store.new result }
     ensures later { IsLater store.old store.new }
 {
@@ -58,7 +65,8 @@ pub fn next(
     args: &[Value],
 ) -> Result<List<Value>, Stop>
     requires { AllOf store.old args.now }
-    ensures answer { Paid (meaning.next (values_seen store.old.texts args.now) store.old.heap) store.old left.old store.new left.new result }
+    ensures answer { Paid (meaning.next (values_seen store.old.texts args.now) store.old.heap)
+        store.old left.old store.new left.new result }
     ensures of { AnswerOf store.new result }
     ensures later { IsLater store.old store.new }
 {

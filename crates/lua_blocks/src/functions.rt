@@ -19,8 +19,8 @@ ghost use Rattle.lua_state.specs.LuaMeaningCharges.{closure_charge};
 use crate::running::running_closure;
 use lua_code::{NoMemory, Place, Statement};
 use lua_state::{
-    ClosureId, ClosureKind, Focus, Left, ProtoId, Slot, Stack, State, Store, TextId, Turn, Value,
-    captures, open, pay, running_source, write,
+    CLOSURE_CHARGE, ClosureId, ClosureKind, Focus, Left, ProtoId, Slot, Stack, State, Store,
+    TextId, Turn, Value, captures, open, pay, running_source, write,
 };
 use page_run::Which;
 use std::alloc::Global;
@@ -164,7 +164,7 @@ pub fn local_function<'m>(
     ensures { IfOk result (λ r. Makes store.old state.old left.old store.new state.new left.new
         (Costs closure_charge (Now (Runs (block_seen rest.now) (frames_of store.old state.old)) (with_function_named function.0 function.1 (map place_seen places.now) (slots_of store.old state.old)))) r) }
 {
-    if !pay(left, 8) {
+    if !pay(left, CLOSURE_CHARGE) {
         return Ok(Turn::Spent(Which::Steps));
     }
     declare_function(alloc, store, state, function, places, rest)

@@ -80,7 +80,8 @@ fn find_in<'a>(
     text: &[u8],
 ) -> Result<Option<&'a Module>, NoMemory>
     requires { AreModules map.now.entries }
-    ensures { IfOk result (λ found. option_map (λ m. module_seen m.now) found ≡ modules_seen map.now.entries text.now) }
+    ensures { IfOk result (λ found.
+        option_map (λ m. module_seen m.now) found ≡ modules_seen map.now.entries text.now) }
 {
     match text.strip_prefix(b"Module:") {
         None => Ok(None),
@@ -111,7 +112,8 @@ impl Modules {
     ) -> Result<(), NoMemory>
         requires namespace { is_module title.ns ≡ true }
         requires fresh { find_module self.old title ≡ None }
-        ensures ok { OnOk result (self.new ≡ self.old ++ (title, record { size = length; code = code }) ∷ []) }
+        ensures ok { OnOk result (self.new
+            ≡ self.old ++ (title, record { size = length; code = code }) ∷ []) }
         ensures err { OnErr result (self.new ≡ self.old) }
     {
         let held = Module { size: length, code };
@@ -121,14 +123,17 @@ impl Modules {
     /// The module of a title, if it is held.
     pub fn get(&self, title: &Title) -> Option<&Module>
         ensures found { option_copied result ≡ find_module self.now title.now }
-        ensures seen { is_module title.now.ns ≡ true → option_map (λ m. module_seen m.now) result ≡ modules_seen self.now (title_text title.now) }
+        ensures seen { is_module title.now.ns ≡ true
+            → option_map (λ m. module_seen m.now) result
+            ≡ modules_seen self.now (title_text title.now) }
     {
         self.map.get(title)
     }
 
     /// The module whose title is written as this text, if it is held.
     pub fn find_text(&self, alloc: Global, text: &[u8]) -> Result<Option<&Module>, NoMemory>
-        ensures { IfOk result (λ found. option_map (λ m. module_seen m.now) found ≡ modules_seen self.now text.now) }
+        ensures { IfOk result (λ found.
+            option_map (λ m. module_seen m.now) found ≡ modules_seen self.now text.now) }
     {
         find_in(&self.map, alloc, text)
     }

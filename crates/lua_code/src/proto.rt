@@ -25,7 +25,8 @@ pub struct Protos {
 impl Protos {
     /// The function of this number, if there is one.
     pub fn get(&self, index: u32) -> Option<&Proto>
-        ensures { option_map (λ p. proto_seen p.now) result ≡ (protos_seen self.now).function index }
+        ensures { option_map (λ p. proto_seen p.now) result
+            ≡ (protos_seen self.now).function index }
     {
         if index == 0 {
             return Some(&self.text);

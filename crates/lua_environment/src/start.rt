@@ -14,7 +14,8 @@ use lua_store::Store;
 /// that was there is changed.
 pub fn environment(store: &mut Store) -> Result<Environment, NoMemory>
     ensures of { IfOk result (EnvironmentOf store.new) }
-    ensures at { IfOk result (λ e. IsHomeAt (length store.old.heap.tables) e.globals.at e.strings.at) }
+    ensures at { IfOk result (λ e.
+        IsHomeAt (length store.old.heap.tables) e.globals.at e.strings.at) }
     ensures made { OnOk result (store.new.heap ≡ with_home store.old.heap) }
     ensures later { IsLater store.old store.new }
 {

@@ -15,7 +15,7 @@ ghost use Rattle.lua_state.specs.LuaMeaningCharges.{closure_charge};
 use crate::running::running_closure;
 use lua_code::{NoMemory, Place};
 use lua_operators::{ClosureKind, Focus, Left, Store, TextId, Value};
-use lua_state::{Given, ProtoId, State, Turn, captures, pay};
+use lua_state::{CLOSURE_CHARGE, Given, ProtoId, State, Turn, captures, pay};
 use page_run::Which;
 use std::alloc::Global;
 
@@ -81,7 +81,7 @@ pub fn closure<'m>(
         (Costs closure_charge (gives (next_closure (slots_of store.old state.now) ∷ []) (frames_of store.old state.now)
         (with_closure (proc_of index (map place_seen places.now) (slots_of store.old state.now)) (slots_of store.old state.now)))) r) }
 {
-    if !pay(left, 8) {
+    if !pay(left, CLOSURE_CHARGE) {
         return Ok(Turn::Spent(Which::Steps));
     }
     new_closure(alloc, store, state, index, places)

@@ -24,7 +24,7 @@ use crate::exits::{give, wait};
 use crate::running::{copy_dots, count_dots};
 use lua_code::{Entry, Expression, List, NoMemory};
 use lua_operators::{Focus, Frame, InExpression, Left, Store, TextId, Value, begin_operands};
-use lua_state::{Given, State, Turn, constant, finish, index_table, pay};
+use lua_state::{Given, State, TABLE_CHARGE, Turn, constant, finish, index_table, pay};
 use page_run::Which;
 use std::alloc::Global;
 
@@ -159,7 +159,7 @@ pub fn constructor<'m>(
     ensures { IfOk result (λ r. Makes store.old state.old left.old store.new state.new left.new
         (Costs table_charge (machine.fields (one_more_table (slots_of store.old state.old).heap).1 1 (entries_seen entries.now) line (frames_of store.old state.old) (machine.with_table (slots_of store.old state.old)))) r) }
 {
-    if !pay(left, 8) {
+    if !pay(left, TABLE_CHARGE) {
         return Ok(Turn::Spent(Which::Steps));
     }
     new_table(store, state, entries, line)

@@ -25,9 +25,12 @@ fn copy_of(store: &Store, order: &IndexSet<TableId>, tables: &[TableId], value: 
     requires value { IsOf store.now value }
     requires tables { AllByRecursion (IsTableOf store.now) tables.now }
     requires count { length tables.now ≡ length order.now.keys }
-    requires reached { AllByRecursion (Contains (places order.now.keys)) (table_in (seen store.now.texts value)) }
+    requires reached { AllByRecursion (Contains (places order.now.keys))
+        (table_in (seen store.now.texts value)) }
     ensures of { IsOf store.now result }
-    ensures copy { (k : ℕ) → AreFrom k tables.now → seen store.now.texts result ≡ walk.copy_of k (places order.now.keys) (seen store.now.texts value) }
+    ensures copy { (k : ℕ) → AreFrom k tables.now
+        → seen store.now.texts result
+        ≡ walk.copy_of k (places order.now.keys) (seen store.now.texts value) }
 {
     let _store = store;
     match value {
@@ -49,10 +52,15 @@ fn copy_entry(
     requires value { IsOf store.old entry.1 }
     requires tables { AllByRecursion (IsTableOf store.old) tables.now }
     requires count { length tables.now ≡ length order.now.keys }
-    requires reached { AllByRecursion (Contains (places order.now.keys)) (table_in (seen store.old.texts entry.1)) }
-    ensures put { OnOk result ((k : ℕ) → AreFrom k tables.now → store.new ≡ record store.old { heap = filled target.at (copied_entries k (places order.now.keys) ((seen store.old.texts entry.0, seen store.old.texts entry.1) ∷ [])) store.old.heap }) }
+    requires reached { AllByRecursion (Contains (places order.now.keys))
+        (table_in (seen store.old.texts entry.1)) }
+    ensures put { OnOk result ((k : ℕ) → AreFrom k tables.now
+        → store.new
+        ≡ record store.old
+        { heap = filled target.at (copied_entries k (places order.now.keys) ((seen store.old.texts entry.0, seen store.old.texts entry.1) ∷ [])) store.old.heap }) }
     ensures only { OnOk result (store.new ≡ record store.old { heap = store.new.heap }) }
-    ensures others { OnOk result ((n : ℕ) → n ≢ target.at → table_at store.new.heap n ≡ table_at store.old.heap n) }
+    ensures others { OnOk result ((n : ℕ) → n ≢ target.at
+        → table_at store.new.heap n ≡ table_at store.old.heap n) }
     ensures later { IsLater store.old store.new }
 {
     let (key, value) = entry;
@@ -81,7 +89,10 @@ fn copy_table(
     requires tables { AllByRecursion (IsTableOf store.old) tables.now }
     requires count { length tables.now ≡ length order.now.keys }
     requires reached { IsClosedAt store.old.heap (places order.now.keys) source.at }
-    ensures put { OnOk result ((k : ℕ) → AreFrom k tables.now → store.new ≡ record store.old { heap = put store.old.heap (tab target.at) (TableObj (copied_table k (places order.now.keys) (table_at store.old.heap source.at))) }) }
+    ensures put { OnOk result ((k : ℕ) → AreFrom k tables.now
+        → store.new
+        ≡ record store.old
+        { heap = put store.old.heap (tab target.at) (TableObj (copied_table k (places order.now.keys) (table_at store.old.heap source.at))) }) }
     ensures later { IsLater store.old store.new }
 {
     laws::keys_are_once(store);
@@ -104,8 +115,11 @@ fn copy_tables(
 ) -> Result<TableId, NoMemory>
     requires of { AllByRecursion (IsTableOf store.old) order.now.keys }
     requires rooted { 0 < length order.now.keys }
-    requires closed { AllByRecursion (IsClosedAt store.old.heap (places order.now.keys)) (places order.now.keys) }
-    ensures put { OnOk result (store.new ≡ record store.old { heap = record store.old.heap { tables = store.old.heap.tables ++ copies store.old.heap (places order.now.keys) } }) }
+    requires closed { AllByRecursion (IsClosedAt store.old.heap (places order.now.keys))
+        (places order.now.keys) }
+    ensures put { OnOk result (store.new
+        ≡ record store.old
+        { heap = record store.old.heap { tables = store.old.heap.tables ++ copies store.old.heap (places order.now.keys) } }) }
     ensures root { IfOk result (λ root. root.at ≡ length store.old.heap.tables) }
     ensures of { IfOk result (IsTableOf store.new) }
     ensures later { IsLater store.old store.new }
@@ -133,9 +147,14 @@ pub fn copy(
     left: &mut Left,
 ) -> Result<Option<Value>, NoMemory>
     requires { IsOf store.old value }
-    ensures covered { IfOk result (λ copy. IsTrue (is_some copy) ↔ (copy_cost store.old.heap (seen store.old.texts value) ≤ left.old.steps)) }
-    ensures made { IfOk result (λ copy. MatchOption copy (store.new ≡ store.old) (IsCopy store.old value store.new)) }
-    ensures rest { OnOk result (left.new ≡ record left.old { steps = left.old.steps - copy_cost store.old.heap (seen store.old.texts value) }) }
+    ensures covered { IfOk result (λ copy.
+        IsTrue (is_some copy)
+        ↔ (copy_cost store.old.heap (seen store.old.texts value) ≤ left.old.steps)) }
+    ensures made { IfOk result (λ copy.
+        MatchOption copy (store.new ≡ store.old) (IsCopy store.old value store.new)) }
+    ensures rest { OnOk result (left.new
+        ≡ record left.old
+        { steps = left.old.steps - copy_cost store.old.heap (seen store.old.texts value) }) }
     ensures of { IfOk result (λ copy. IfSome copy (IsOf store.new)) }
     ensures later { IsLater store.old store.new }
 {

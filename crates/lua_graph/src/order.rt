@@ -15,8 +15,10 @@ use std::alloc::Global;
 
 /// The order with a table behind the others, where it is not among them.
 fn reach_table(order: &mut IndexSet<TableId>, table: TableId) -> Result<(), NoMemory>
-    ensures order { OnOk result (places order.new.keys ≡ with_table (places order.old.keys) table.at) }
-    ensures of { OnOk result ((s : StoreView) → AllByRecursion (IsTableOf s) order.old.keys → IsTableOf s table → AllByRecursion (IsTableOf s) order.new.keys) }
+    ensures order { OnOk result (places order.new.keys
+        ≡ with_table (places order.old.keys) table.at) }
+    ensures of { OnOk result ((s : StoreView) → AllByRecursion (IsTableOf s) order.old.keys
+        → IsTableOf s table → AllByRecursion (IsTableOf s) order.new.keys) }
 {
     match order.insert_full(table) {
         Ok(_) => Ok(()),
@@ -26,8 +28,10 @@ fn reach_table(order: &mut IndexSet<TableId>, table: TableId) -> Result<(), NoMe
 
 /// The order with the table that a value is, if it is one.
 fn reach_value(order: &mut IndexSet<TableId>, value: Value) -> Result<(), NoMemory>
-    ensures order { OnOk result ((texts : List (List ℕ)) → places order.new.keys ≡ with_value (places order.old.keys) (seen texts value)) }
-    ensures of { OnOk result ((s : StoreView) → AllByRecursion (IsTableOf s) order.old.keys → IsOf s value → AllByRecursion (IsTableOf s) order.new.keys) }
+    ensures order { OnOk result ((texts : List (List ℕ))
+        → places order.new.keys ≡ with_value (places order.old.keys) (seen texts value)) }
+    ensures of { OnOk result ((s : StoreView) → AllByRecursion (IsTableOf s) order.old.keys
+        → IsOf s value → AllByRecursion (IsTableOf s) order.new.keys) }
 {
     match value {
         Value::Table(table) => reach_table(order, table),
@@ -38,7 +42,10 @@ fn reach_value(order: &mut IndexSet<TableId>, value: Value) -> Result<(), NoMemo
 /// The entry of a table at a place, before those behind it.
 pub(crate) fn entry_at(store: &Store, table: TableId, at: usize) -> Option<(Value, Value)>
     requires { IsTableOf store.now table }
-    ensures entry { MatchOption result (drop at (table_at store.now.heap table.at).entries ≡ []) (λ p. drop at (table_at store.now.heap table.at).entries ≡ (seen store.now.texts p.0, seen store.now.texts p.1) ∷ drop (at + 1) (table_at store.now.heap table.at).entries) }
+    ensures entry { MatchOption result (drop at (table_at store.now.heap table.at).entries ≡ []) (λ p.
+        drop at (table_at store.now.heap table.at).entries
+        ≡ (seen store.now.texts p.0, seen store.now.texts p.1)
+        ∷ drop (at + 1) (table_at store.now.heap table.at).entries) }
     ensures of { IfSome result (λ p. IsOf store.now p.0 × IsOf store.now p.1) }
 {
     match store.entry(table, at) {
@@ -51,7 +58,8 @@ pub(crate) fn entry_at(store: &Store, table: TableId, at: usize) -> Option<(Valu
 fn reach_links(store: &Store, order: &mut IndexSet<TableId>, table: TableId) -> Result<(), NoMemory>
     requires table { IsTableOf store.now table }
     requires order { AllByRecursion (IsTableOf store.now) order.old.keys }
-    ensures order { OnOk result (places order.new.keys ≡ with_links (places order.old.keys) (table_at store.now.heap table.at)) }
+    ensures order { OnOk result (places order.new.keys
+        ≡ with_links (places order.old.keys) (table_at store.now.heap table.at)) }
     ensures of { OnOk result (AllByRecursion (IsTableOf store.now) order.new.keys) }
 {
     reach_value(order, store.meta(table))?;
@@ -68,7 +76,8 @@ fn reach_links(store: &Store, order: &mut IndexSet<TableId>, table: TableId) -> 
 #[tactic(auto, using(crate::proofs::Places::nth_place, crate::proofs::Places::nth_some))]
 pub(crate) fn nth(order: &IndexSet<TableId>, at: usize) -> Option<TableId>
     ensures place { option_map (λ t. t.at) result ≡ slice_get (places order.now.keys) at }
-    ensures of { (s : StoreView) → AllByRecursion (IsTableOf s) order.now.keys → IfSome result (IsTableOf s) }
+    ensures of { (s : StoreView) → AllByRecursion (IsTableOf s) order.now.keys
+        → IfSome result (IsTableOf s) }
 {
     order.get_index(at).copied()
 }

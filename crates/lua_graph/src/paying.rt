@@ -12,24 +12,35 @@ use crate::order::{entry_at, nth};
 use indexmap::IndexSet;
 use lua_store::{Left, NoMemory, Slot, Store, TableId, Value};
 
-/// Takes the steps of an entry with that value: 4, or none where it is cleared.
+/// A table that is copied.
+const TABLE_CHARGE: u64 = 8;
+
+/// An entry that is copied.
+const ENTRY_CHARGE: u64 = 4;
+
+/// Takes the steps of an entry with that value, or none where it is cleared.
 fn take_entry(left: &mut Left, value: Value) -> bool
-    ensures covered { (texts : List (List ℕ)) → IsTrue result ↔ (entry_cost (seen texts value) ≤ left.old.steps) }
-    ensures rest { (texts : List (List ℕ)) → left.new ≡ record left.old { steps = left.old.steps - entry_cost (seen texts value) } }
+    ensures covered { (texts : List (List ℕ))
+        → IsTrue result ↔ (entry_cost (seen texts value) ≤ left.old.steps) }
+    ensures rest { (texts : List (List ℕ))
+        → left.new ≡ record left.old { steps = left.old.steps - entry_cost (seen texts value) } }
 {
     if value.is_nil() {
         return true;
     }
-    left.take_steps(4)
+    left.take_steps(ENTRY_CHARGE)
 }
 
-/// Takes the steps of a table: 8, and those of its entries. Where they are not covered, none stay.
+/// Takes the steps of a table, and those of its entries. Where they are not covered, none stay.
 fn take_table(store: &Store, table: TableId, left: &mut Left) -> Result<bool, NoMemory>
     requires { IsTableOf store.now table }
-    ensures covered { IfOk result (λ covered. IsTrue covered ↔ (table_cost (table_at store.now.heap table.at) ≤ left.old.steps)) }
-    ensures rest { OnOk result (left.new ≡ record left.old { steps = left.old.steps - table_cost (table_at store.now.heap table.at) }) }
+    ensures covered { IfOk result (λ covered.
+        IsTrue covered ↔ (table_cost (table_at store.now.heap table.at) ≤ left.old.steps)) }
+    ensures rest { OnOk result (left.new
+        ≡ record left.old
+        { steps = left.old.steps - table_cost (table_at store.now.heap table.at) }) }
 {
-    if !left.take_steps(8) {
+    if !left.take_steps(TABLE_CHARGE) {
         return Ok(false);
     }
     for at in 0..usize::MAX {
@@ -52,8 +63,11 @@ pub(crate) fn take_tables(
     left: &mut Left,
 ) -> Result<bool, NoMemory>
     requires { AllByRecursion (IsTableOf store.now) order.now.keys }
-    ensures covered { IfOk result (λ covered. IsTrue covered ↔ (tables_cost store.now.heap (places order.now.keys) ≤ left.old.steps)) }
-    ensures rest { OnOk result (left.new ≡ record left.old { steps = left.old.steps - tables_cost store.now.heap (places order.now.keys) }) }
+    ensures covered { IfOk result (λ covered.
+        IsTrue covered ↔ (tables_cost store.now.heap (places order.now.keys) ≤ left.old.steps)) }
+    ensures rest { OnOk result (left.new
+        ≡ record left.old
+        { steps = left.old.steps - tables_cost store.now.heap (places order.now.keys) }) }
 {
     for at in 0..usize::MAX {
         match nth(order, at) {

@@ -32,7 +32,8 @@ fn split_entries(entries: &[GraphEntry]) -> Option<(GraphEntry, &[GraphEntry])>
 
 /// The names of texts, which are made where they are not there.
 fn names_of(alloc: Global, store: &mut Store, texts: &[Bytes]) -> Result<List<TextId>, NoMemory>
-    ensures put { OnOk result (store.new ≡ record store.old { texts = with_texts store.old.texts texts.now }) }
+    ensures put { OnOk result (store.new
+        ≡ record store.old { texts = with_texts store.old.texts texts.now }) }
     ensures names { IfOk result (AreNames store.new texts.now) }
     ensures later { IsLater store.old store.new }
 {
@@ -72,7 +73,9 @@ fn value_of(store: &Store, tables: &[TableId], names: &[TextId], item: GraphItem
     requires tables { AllByRecursion (IsTableOf store.now) tables.now }
     requires names { AllByRecursion (IsTextOf store.now) names.now }
     ensures of { IsOf store.now result }
-    ensures value { (k : ℕ) → AreFrom k tables.now → seen store.now.texts result ≡ shift k (plain_item (named store.now.texts names.now) item) }
+    ensures value { (k : ℕ) → AreFrom k tables.now
+        → seen store.now.texts result
+        ≡ shift k (plain_item (named store.now.texts names.now) item) }
 {
     let _store = store;
     match item {
@@ -91,11 +94,15 @@ fn fill(
     table: TableId,
     entries: &[GraphEntry],
 ) -> Result<(), NoMemory>
-    requires entries { AllByRecursion (IsEntryOf (length tables.now) (length names.now)) entries.now }
+    requires entries { AllByRecursion (IsEntryOf (length tables.now) (length names.now))
+        entries.now }
     requires tables { AllByRecursion (IsTableOf store.old) tables.now }
     requires names { AllByRecursion (IsTextOf store.old) names.now }
     requires table { IsTableOf store.old table }
-    ensures put { OnOk result ((k : ℕ) → AreFrom k tables.now → store.new ≡ record store.old { heap = filled table.at (shift_entries k (plain_entries (named store.old.texts names.now) entries.now)) store.old.heap }) }
+    ensures put { OnOk result ((k : ℕ) → AreFrom k tables.now
+        → store.new
+        ≡ record store.old
+        { heap = filled table.at (shift_entries k (plain_entries (named store.old.texts names.now) entries.now)) store.old.heap }) }
     ensures only { OnOk result (store.new ≡ record store.old { heap = store.new.heap }) }
     ensures later { IsLater store.old store.new }
 {
@@ -140,11 +147,15 @@ fn fill_all(
     nodes: &[GraphNode],
     frozen: bool,
 ) -> Result<(), NoMemory>
-    requires nodes { AllByRecursion (AreEntriesOf (length tables.now) (length names.now)) nodes.now }
+    requires nodes { AllByRecursion (AreEntriesOf (length tables.now) (length names.now))
+        nodes.now }
     requires count { length tables.now ≡ length nodes.now }
     requires tables { AllByRecursion (IsTableOf store.old) tables.now }
     requires names { AllByRecursion (IsTextOf store.old) names.now }
-    ensures put { OnOk result ((k : ℕ) → AreFrom k tables.now → store.new ≡ record store.old { heap = all_filled frozen k (map (shift_entries k) (plain_nodes (named store.old.texts names.now) nodes.now)) store.old.heap }) }
+    ensures put { OnOk result ((k : ℕ) → AreFrom k tables.now
+        → store.new
+        ≡ record store.old
+        { heap = all_filled frozen k (map (shift_entries k) (plain_nodes (named store.old.texts names.now) nodes.now)) store.old.heap }) }
     ensures later { IsLater store.old store.new }
 {
     let mut rest = nodes;

@@ -33,7 +33,9 @@ fn place_of_text(texts: &mut IndexSet<TextId>, text: TextId) -> Result<usize, Da
 
 /// The item of a key.
 fn key_item(texts: &mut IndexSet<TextId>, key: Value) -> Result<GraphItem, DataFault>
-    ensures ok { IfOk result (λ i. (s : StoreView) → IsOf s key → IsRead s texts.old.keys texts.new.keys (walk.key_of (seen s.texts key)) i) }
+    ensures ok { IfOk result (λ i.
+        (s : StoreView) → IsOf s key
+        → IsRead s texts.old.keys texts.new.keys (walk.key_of (seen s.texts key)) i) }
     ensures err { IfErr result (λ e. (s : StoreView) → IsFault (walk.key_of (seen s.texts key)) e) }
 {
     match key {
@@ -54,8 +56,12 @@ fn value_item(
     value: Value,
 ) -> Result<GraphItem, DataFault>
     requires { value ≢ own.Nil }
-    ensures ok { IfOk result (λ i. (s : StoreView) → IsOf s value → IsRead s texts.old.keys texts.new.keys (walk.item_of (places order.now.keys) (seen s.texts value)) i) }
-    ensures err { IfErr result (λ e. (s : StoreView) → IsFault (walk.item_of (places order.now.keys) (seen s.texts value)) e) }
+    ensures ok { IfOk result (λ i.
+        (s : StoreView) → IsOf s value
+        → IsRead s texts.old.keys texts.new.keys
+        (walk.item_of (places order.now.keys) (seen s.texts value)) i) }
+    ensures err { IfErr result (λ e.
+        (s : StoreView) → IsFault (walk.item_of (places order.now.keys) (seen s.texts value)) e) }
 {
     match value {
         Value::Nil => unreachable!(),
@@ -79,8 +85,16 @@ fn entry_of(
     key: Value,
     value: Value,
 ) -> Result<Option<GraphEntry>, DataFault>
-    ensures ok { IfOk result (λ o. (s : StoreView) → IsOf s key → IsOf s value → IsEntryRead s (places order.now.keys) texts.old.keys texts.new.keys (seen s.texts key, seen s.texts value) o) }
-    ensures err { IfErr result (λ e. (s : StoreView) → IsOf s key → (is_nil (seen s.texts value) ≡ false) × IsFault (walk.entry_of (places order.now.keys) (seen s.texts key, seen s.texts value)) e) }
+    ensures ok { IfOk result (λ o.
+        (s : StoreView) → IsOf s key → IsOf s value
+        → IsEntryRead s (places order.now.keys) texts.old.keys texts.new.keys
+        (seen s.texts key, seen s.texts value) o) }
+    ensures err { IfErr result (λ e.
+        (s : StoreView) → IsOf s key
+        → (is_nil (seen s.texts value) ≡ false)
+        × IsFault
+        (walk.entry_of (places order.now.keys) (seen s.texts key, seen s.texts value))
+        e) }
 {
     if value.is_nil() {
         return Ok(None);
@@ -97,7 +111,8 @@ fn entry_of(
 
 /// The entries with one more, where there is one.
 fn add(entries: &mut List<GraphEntry>, entry: Option<GraphEntry>) -> Result<(), DataFault>
-    ensures ok { OnOk result (MatchOption entry (entries.new ≡ entries.old) (λ e. entries.new ≡ entries.old ++ e ∷ [])) }
+    ensures ok { OnOk result (MatchOption entry (entries.new ≡ entries.old) (λ e.
+        entries.new ≡ entries.old ++ e ∷ [])) }
     ensures err { IfErr result (λ e. e ≡ DataFault.NoMemory) }
 {
     let Some(entry) = entry else {
@@ -118,8 +133,11 @@ fn entries_of(
     table: TableId,
 ) -> Result<List<GraphEntry>, DataFault>
     requires { IsTableOf store.now table }
-    ensures ok { IfOk result (λ es. AreRead store.now texts.old.keys texts.new.keys (walk.node_of (places order.now.keys) (table_at store.now.heap table.at)) es) }
-    ensures err { IfErr result (IsFault (walk.node_of (places order.now.keys) (table_at store.now.heap table.at))) }
+    ensures ok { IfOk result (λ es.
+        AreRead store.now texts.old.keys texts.new.keys
+        (walk.node_of (places order.now.keys) (table_at store.now.heap table.at)) es) }
+    ensures err { IfErr result (IsFault
+        (walk.node_of (places order.now.keys) (table_at store.now.heap table.at))) }
 {
     if !store.meta(table).is_nil() {
         return Err(DataFault::HasMetatable);
@@ -150,8 +168,14 @@ fn nodes_of(
     texts: &mut IndexSet<TextId>,
 ) -> Result<List<GraphNode>, DataFault>
     requires { AllByRecursion (IsTableOf store.now) order.now.keys }
-    ensures ok { IfOk result (λ ns. NodesAreRead store.now texts.old.keys texts.new.keys (walk.all_ok (λ n. walk.node_of (places order.now.keys) (table_at store.now.heap n)) (places order.now.keys)) ns) }
-    ensures err { IfErr result (IsFault (walk.all_ok (λ n. walk.node_of (places order.now.keys) (table_at store.now.heap n)) (places order.now.keys))) }
+    ensures ok { IfOk result (λ ns.
+        NodesAreRead store.now texts.old.keys texts.new.keys
+        (walk.all_ok (λ n. walk.node_of (places order.now.keys) (table_at store.now.heap n))
+        (places order.now.keys))
+        ns) }
+    ensures err { IfErr result (IsFault
+        (walk.all_ok (λ n. walk.node_of (places order.now.keys) (table_at store.now.heap n))
+        (places order.now.keys))) }
 {
     let mut nodes = List::new(alloc);
     for at in 0..usize::MAX {
@@ -199,10 +223,12 @@ fn bytes_of(alloc: Global, store: &Store, texts: &IndexSet<TextId>) -> Result<Li
 /// Cleared entries are left out. Each text stands in the graph once, in order of first reach. The store stays as it is.
 pub fn take_out(alloc: Global, store: &Store, value: Value) -> Result<Graph, DataFault>
     requires { IsOf store.now value }
-    ensures graph { IfOk result (λ g. walk.taken store.now.heap (seen store.now.texts value) ≡ Ok (plain_graph g)) }
+    ensures graph { IfOk result (λ g.
+        walk.taken store.now.heap (seen store.now.texts value) ≡ Ok (plain_graph g)) }
     ensures texts { IfOk result (λ g. g.texts ≡ texts_of (plain_graph g)) }
     ensures made { IfOk result IsMade }
-    ensures fault { IfErr result (IsFault (walk.taken store.now.heap (seen store.now.texts value))) }
+    ensures fault { IfErr result (IsFault
+        (walk.taken store.now.heap (seen store.now.texts value))) }
 {
     laws::texts_are_once(store);
     laws::keys_are_once(store);

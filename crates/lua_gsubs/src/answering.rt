@@ -22,7 +22,8 @@ pub fn made_values(
     text: &[u8],
     count: usize,
 ) -> Result<List<Value>, NoMemory>
-    ensures values { IfOk result (λ values. values_seen store.new.texts values ≡ kind.Text text.now ∷ kind.Number (pos count) ∷ []) }
+    ensures values { IfOk result (λ values.
+        values_seen store.new.texts values ≡ kind.Text text.now ∷ kind.Number (pos count) ∷ []) }
     ensures of { IfOk result (AllOf store.new) }
     ensures heap { store.new.heap ≡ store.old.heap }
     ensures later { IsLater store.old store.new }
@@ -56,7 +57,11 @@ fn answer_over<A: Alphabet>(
     replacement: &[u8],
     limit: u64,
 ) -> Result<List<Value>, Stop>
-    ensures answer { Paid (meaning.replaced_answer store.old.heap (meaning.replaced_from A.letters pattern.now.anchored pattern.now.items pattern.now.slots s.now replacement.now limit 0 (Some meaning.at_head))) store.old left.old store.new left.new result }
+    ensures answer { Paid
+        (meaning.replaced_answer store.old.heap
+        (meaning.replaced_from A.letters pattern.now.anchored pattern.now.items
+        pattern.now.slots s.now replacement.now limit 0 (Some meaning.at_head)))
+        store.old left.old store.new left.new result }
     ensures of { AnswerOf store.new result }
     ensures later { IsLater store.old store.new }
 {
@@ -79,7 +84,12 @@ pub fn answer_by_text(
     replacement: &[u8],
     limit: u64,
 ) -> Result<List<Value>, Stop>
-    ensures answer { Paid (meaning.replaced_answer store.old.heap (meaning.replaced_from (meaning.letters (alphabet_in pattern.now)) (anchored_in pattern.now) (items_in pattern.now) (slots_in pattern.now) s.now replacement.now limit 0 (Some meaning.at_head))) store.old left.old store.new left.new result }
+    ensures answer { Paid
+        (meaning.replaced_answer store.old.heap
+        (meaning.replaced_from (meaning.letters (alphabet_in pattern.now))
+        (anchored_in pattern.now) (items_in pattern.now) (slots_in pattern.now) s.now
+        replacement.now limit 0 (Some meaning.at_head)))
+        store.old left.old store.new left.new result }
     ensures of { AnswerOf store.new result }
     ensures later { IsLater store.old store.new }
 {

@@ -43,9 +43,13 @@ fn a_gsub_text<'b>(
     given: &[Value],
 ) -> Result<TextIn<'b>, Stop>
     requires { AllOf store.old given.now }
-    ensures found { IfOk result (λ text. meaning.text_in_alphabet (alphabet_of which) n (values_seen store.old.texts given.now) ≡ Ok (text_bytes text)) }
+    ensures found { IfOk result (λ text.
+        meaning.text_in_alphabet (alphabet_of which) n (values_seen store.old.texts given.now)
+        ≡ Ok (text_bytes text)) }
     ensures same { OnOk result (store.new ≡ store.old) }
-    ensures refused { IfErr result (Refuses (meaning.text_in_alphabet (alphabet_of which) n (values_seen store.old.texts given.now)) store.old store.new) }
+    ensures refused { IfErr result (Refuses
+        (meaning.text_in_alphabet (alphabet_of which) n (values_seen store.old.texts given.now))
+        store.old store.new) }
     ensures of { IfErr result (StopOf store.new) }
     ensures later { IsLater store.old store.new }
 {
@@ -58,7 +62,8 @@ fn a_gsub_text<'b>(
 /// What is asked for a replacement, where this value is a table or a function.
 fn replacer_of(value: Value) -> Option<Replacer>
     ensures of { (s : StoreView) → IsOf s value → IfSome result (ReplacerOf s) }
-    ensures replacer { (texts : Items (Items ℕ)) → replacer_in (seen texts value) ≡ option_map (replacer_seen texts) result }
+    ensures replacer { (texts : Items (Items ℕ))
+        → replacer_in (seen texts value) ≡ option_map (replacer_seen texts) result }
 {
     match value {
         Value::Table(id) => Some(Replacer::Table(id)),
@@ -80,10 +85,14 @@ fn a_replacement<'b>(
     given: &[Value],
 ) -> Result<By<'b>, Stop>
     requires { AllOf store.old given.now }
-    ensures found { IfOk result (λ by. meaning.a_replacement (alphabet_of which) (values_seen store.old.texts given.now) ≡ Ok (by_seen store.old.texts by)) }
+    ensures found { IfOk result (λ by.
+        meaning.a_replacement (alphabet_of which) (values_seen store.old.texts given.now)
+        ≡ Ok (by_seen store.old.texts by)) }
     ensures by { IfOk result (ByOf store.old) }
     ensures same { OnOk result (store.new ≡ store.old) }
-    ensures refused { IfErr result (Refuses (meaning.a_replacement (alphabet_of which) (values_seen store.old.texts given.now)) store.old store.new) }
+    ensures refused { IfErr result (Refuses
+        (meaning.a_replacement (alphabet_of which) (values_seen store.old.texts given.now))
+        store.old store.new) }
     ensures of { IfErr result (StopOf store.new) }
     ensures later { IsLater store.old store.new }
 {
@@ -119,9 +128,14 @@ fn count_of(n: i64) -> u64
 /// How many matches are replaced at most, as the fourth argument.
 fn a_limit(alloc: Global, store: &mut Store, s: &[u8], given: &[Value]) -> Result<i64, Stop>
     requires { AllOf store.old given.now }
-    ensures found { IfOk result (λ z. number_or_of (meaning.all_of s.now) 4 (codes "gsub") (values_seen store.old.texts given.now) ≡ Ok z) }
+    ensures found { IfOk result (λ z.
+        number_or_of (meaning.all_of s.now) 4 (codes "gsub") (values_seen store.old.texts given.now)
+        ≡ Ok z) }
     ensures same { OnOk result (store.new ≡ store.old) }
-    ensures refused { IfErr result (Refuses (number_or_of (meaning.all_of s.now) 4 (codes "gsub") (values_seen store.old.texts given.now)) store.old store.new) }
+    ensures refused { IfErr result (Refuses
+        (number_or_of (meaning.all_of s.now) 4 (codes "gsub")
+        (values_seen store.old.texts given.now))
+        store.old store.new) }
     ensures of { IfErr result (StopOf store.new) }
     ensures later { IsLater store.old store.new }
 {
@@ -139,10 +153,14 @@ pub fn read_given<'b>(
     args: &[Value],
 ) -> Result<GivenIn<'b>, Stop>
     requires { AllOf store.old args.now }
-    ensures found { IfOk result (λ g. meaning.given_in (alphabet_of which) (values_seen store.old.texts args.now) ≡ Ok (given_seen store.old.texts g)) }
+    ensures found { IfOk result (λ g.
+        meaning.given_in (alphabet_of which) (values_seen store.old.texts args.now)
+        ≡ Ok (given_seen store.old.texts g)) }
     ensures by { IfOk result (λ g. ByOf store.old g.by) }
     ensures same { OnOk result (store.new ≡ store.old) }
-    ensures refused { IfErr result (Refuses (meaning.given_in (alphabet_of which) (values_seen store.old.texts args.now)) store.old store.new) }
+    ensures refused { IfErr result (Refuses
+        (meaning.given_in (alphabet_of which) (values_seen store.old.texts args.now)) store.old
+        store.new) }
     ensures of { IfErr result (StopOf store.new) }
     ensures later { IsLater store.old store.new }
 {

@@ -29,7 +29,11 @@ pub enum Begun {
 
 /// Reads a pattern over bytes.
 fn read_bytes(alloc: Global, bytes: &[u8]) -> Result<AnyPattern, PatternFault>
-    ensures read { MatchResult result (λ p. read_of (codes (meaning.letters meaning.OfBytes) bytes.now) ≡ Fine (anchored_in p) (items_in p) (slots_in p)) (λ e. IsReadFault (read_of (codes (meaning.letters meaning.OfBytes) bytes.now)) e) }
+    ensures read { MatchResult result
+        (λ p.
+        read_of (codes (meaning.letters meaning.OfBytes) bytes.now)
+        ≡ Fine (anchored_in p) (items_in p) (slots_in p))
+        (λ e. IsReadFault (read_of (codes (meaning.letters meaning.OfBytes) bytes.now)) e) }
     ensures alphabet { IfOk result (λ p. alphabet_in p ≡ meaning.OfBytes) }
 {
     match Pattern::<OneByte>::read(alloc, bytes) {
@@ -40,7 +44,11 @@ fn read_bytes(alloc: Global, bytes: &[u8]) -> Result<AnyPattern, PatternFault>
 
 /// Reads a pattern over code points.
 fn read_points(alloc: Global, bytes: &[u8]) -> Result<AnyPattern, PatternFault>
-    ensures read { MatchResult result (λ p. read_of (codes (meaning.letters meaning.OfPoints) bytes.now) ≡ Fine (anchored_in p) (items_in p) (slots_in p)) (λ e. IsReadFault (read_of (codes (meaning.letters meaning.OfPoints) bytes.now)) e) }
+    ensures read { MatchResult result
+        (λ p.
+        read_of (codes (meaning.letters meaning.OfPoints) bytes.now)
+        ≡ Fine (anchored_in p) (items_in p) (slots_in p))
+        (λ e. IsReadFault (read_of (codes (meaning.letters meaning.OfPoints) bytes.now)) e) }
     ensures alphabet { IfOk result (λ p. alphabet_in p ≡ meaning.OfPoints) }
 {
     match Pattern::<OnePoint>::read(alloc, bytes) {
@@ -55,7 +63,11 @@ fn read_pattern(
     which: GsubFunction,
     bytes: &[u8],
 ) -> Result<AnyPattern, PatternFault>
-    ensures read { MatchResult result (λ p. read_of (codes (meaning.letters (alphabet_of which)) bytes.now) ≡ Fine (anchored_in p) (items_in p) (slots_in p)) (λ e. IsReadFault (read_of (codes (meaning.letters (alphabet_of which)) bytes.now)) e) }
+    ensures read { MatchResult result
+        (λ p.
+        read_of (codes (meaning.letters (alphabet_of which)) bytes.now)
+        ≡ Fine (anchored_in p) (items_in p) (slots_in p))
+        (λ e. IsReadFault (read_of (codes (meaning.letters (alphabet_of which)) bytes.now)) e) }
     ensures alphabet { IfOk result (λ p. alphabet_in p ≡ alphabet_of which) }
 {
     match which {
@@ -74,7 +86,12 @@ fn begin_job(
     limit: u64,
 ) -> Result<Begun, Stop>
     requires { ReplacerOf store.old by }
-    ensures begun { IsBegun (meaning.GsubAsks 0 (record { alphabet = alphabet_in pattern; subject = s.now; anchored = anchored_in pattern; items = items_in pattern; slots = slots_in pattern; by = replacer_seen store.old.texts by }) limit) store.old left.now store.new left.now result }
+    ensures begun { IsBegun
+        (meaning.GsubAsks 0
+        (record
+        { alphabet = alphabet_in pattern; subject = s.now; anchored = anchored_in pattern; items = items_in pattern; slots = slots_in pattern; by = replacer_seen store.old.texts by })
+        limit)
+        store.old left.now store.new left.now result }
     ensures of { BegunOf store.new result }
     ensures later { IsLater store.old store.new }
 {
@@ -100,7 +117,10 @@ fn begin_by(
     limit: u64,
 ) -> Result<Begun, Stop>
     requires { ByOf store.old by.now }
-    ensures begun { IsBegun (free_by (alphabet_in pattern) store.old.heap s.now limit (anchored_in pattern) (items_in pattern) (slots_in pattern) (by_seen store.old.texts by.now)) store.old left.old store.new left.new result }
+    ensures begun { IsBegun
+        (free_by (alphabet_in pattern) store.old.heap s.now limit (anchored_in pattern)
+        (items_in pattern) (slots_in pattern) (by_seen store.old.texts by.now))
+        store.old left.old store.new left.new result }
     ensures of { BegunOf store.new result }
     ensures later { IsLater store.old store.new }
 {
@@ -125,7 +145,12 @@ fn begin_read(
     given: GivenIn,
 ) -> Result<Begun, Stop>
     requires { ByOf store.old given.by }
-    ensures begun { IsBegun (free_read (alphabet_of which) store.old.heap (given_seen store.old.texts given.entry) (read_of (codes (meaning.letters (alphabet_of which)) (given_seen store.old.texts given.entry).pattern))) store.old left.old store.new left.new result }
+    ensures begun { IsBegun
+        (free_read (alphabet_of which) store.old.heap (given_seen store.old.texts given.entry)
+        (read_of
+        (codes (meaning.letters (alphabet_of which))
+        (given_seen store.old.texts given.entry).pattern)))
+        store.old left.old store.new left.new result }
     ensures of { BegunOf store.new result }
     ensures later { IsLater store.old store.new }
 {
@@ -147,7 +172,10 @@ fn begin_given(
     args: &[Value],
 ) -> Result<Begun, Stop>
     requires { AllOf store.old args.now }
-    ensures begun { IsBegun (meaning.by_given (alphabet_of which) store.old.heap 0 (meaning.given_in (alphabet_of which) (values_seen store.old.texts args.now))) store.old left.old store.new left.new result }
+    ensures begun { IsBegun
+        (meaning.by_given (alphabet_of which) store.old.heap 0
+        (meaning.given_in (alphabet_of which) (values_seen store.old.texts args.now)))
+        store.old left.old store.new left.new result }
     ensures of { BegunOf store.new result }
     ensures later { IsLater store.old store.new }
 {
@@ -159,7 +187,8 @@ fn begin_given(
 /// Takes what the arguments cost: over code points the bytes of those that are strings.
 fn pay_args(store: &Store, left: &mut Left, which: GsubFunction, args: &[Value]) -> Result<(), Stop>
     requires { AllOf store.now args.now }
-    ensures { Pays (meaning.args_charge (alphabet_of which) (values_seen store.now.texts args.now)) left.old left.new result }
+    ensures { Pays (meaning.args_charge (alphabet_of which) (values_seen store.now.texts args.now))
+        left.old left.new result }
 {
     match which {
         GsubFunction::OfBytes => pay(left, 0),
@@ -179,7 +208,10 @@ pub fn gsub_begin(
     args: &[Value],
 ) -> Result<Begun, Stop>
     requires { AllOf store.old args.now }
-    ensures begun { IsBegun (meaning.gsub_form (alphabet_of which) (values_seen store.old.texts args.now) store.old.heap) store.old left.old store.new left.new result }
+    ensures begun { IsBegun
+        (meaning.gsub_form (alphabet_of which) (values_seen store.old.texts args.now)
+        store.old.heap)
+        store.old left.old store.new left.new result }
     ensures of { BegunOf store.new result }
     ensures later { IsLater store.old store.new }
 {

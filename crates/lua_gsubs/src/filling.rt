@@ -42,7 +42,8 @@ impl From<NoMemory> for Halt {
 
 /// The place of a capture, as Lua counts it.
 fn place_number<A: Alphabet>(s: &[u8], stand: Stand, place: usize) -> Result<u64, NoMemory>
-    ensures { IfOk result (λ n. n ≡ suc (symbols_before_of A.letters s.now (stand_seen stand) place)) }
+    ensures { IfOk result (λ n.
+        n ≡ suc (symbols_before_of A.letters s.now (stand_seen stand) place)) }
 {
     let count = symbols_before::<A>(s, stand.at, stand.before, place)?;
     match count.checked_add(1) {
@@ -57,7 +58,8 @@ fn capture_text<'s, A: Alphabet>(
     stand: Stand,
     capture: Capture,
 ) -> Result<CaptureText<'s>, NoMemory>
-    ensures { IfOk result (λ c. text_of c ≡ meaning.capture_text A.letters s.now (stand_seen stand) capture) }
+    ensures { IfOk result (λ c.
+        text_of c ≡ meaning.capture_text A.letters s.now (stand_seen stand) capture) }
 {
     match capture {
         Capture::Span(from, to) => Ok(CaptureText::Bytes(span(s, from, to))),
@@ -85,7 +87,9 @@ pub fn capture_texts<'s, A: Alphabet>(
     stand: Stand,
     captures: &[Capture],
 ) -> Result<List<CaptureText<'s>>, NoMemory>
-    ensures { IfOk result (λ texts. map text_of texts ≡ map (meaning.capture_text A.letters s.now (stand_seen stand)) captures.now) }
+    ensures { IfOk result (λ texts.
+        map text_of texts
+        ≡ map (meaning.capture_text A.letters s.now (stand_seen stand)) captures.now) }
 {
     let mut texts = List::new(alloc);
     let mut rest = captures;
@@ -116,7 +120,8 @@ fn put_both(text: &mut Vec<u8>, between: &[u8], made: &[u8]) -> Result<(), NoMem
 
 /// Whether a replacement has no `%`: then it stands for itself at each match.
 fn stands_for_itself(replacement: &[u8]) -> bool
-    ensures { IsTrue result → (whole : Items ℕ) (captures : Items CaptureText) → replaced_of whole captures replacement.now ≡ Ok replacement.now }
+    ensures { IsTrue result → (whole : Items ℕ) (captures : Items CaptureText)
+        → replaced_of whole captures replacement.now ≡ Ok replacement.now }
 {
     let mut left = replacement;
     'bytes: while let Some((byte, more)) = first_byte(left) {
@@ -138,7 +143,8 @@ fn make_filled(
     whole: &[u8],
     captures: &[CaptureText],
 ) -> Result<(), NoMemory>
-    ensures { OnOk result (IsText (replaced_of whole.now captures.now replacement.now) between.now text.old.items text.new.items) }
+    ensures { OnOk result (IsText (replaced_of whole.now captures.now replacement.now) between.now
+        text.old.items text.new.items) }
 {
     if stands_for_itself(replacement) {
         put_both(text, between, replacement)?;
@@ -160,7 +166,8 @@ pub fn put_filled(
     whole: &[u8],
     captures: &[CaptureText],
 ) -> Result<(), Halt>
-    ensures { IsFilled (replaced_of whole.now captures.now replacement.now) between.now text.old.items left.old text.new.items left.new result }
+    ensures { IsFilled (replaced_of whole.now captures.now replacement.now) between.now
+        text.old.items left.old text.new.items left.new result }
 {
     match replaced_length(replacement, whole, captures) {
         None => Err(Halt::NoCapture),

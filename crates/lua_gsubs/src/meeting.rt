@@ -30,7 +30,8 @@ pub fn meet<A: Alphabet>(
     at: usize,
 ) -> Result<Met, Stop>
     requires { at ≤ length s.now }
-    ensures met { IsMet pattern.now.slots (walk A.letters pattern.now.anchored pattern.now.items s.now at) left.old left.new result }
+    ensures met { IsMet pattern.now.slots
+        (walk A.letters pattern.now.anchored pattern.now.items s.now at) left.old left.new result }
     ensures within { IfOk result (MetWithin (length s.now)) }
 {
     match pattern.search(alloc, s, at, left.steps) {
@@ -55,7 +56,8 @@ pub fn next_stand<A: Alphabet>(
     next: Option<usize>,
 ) -> Result<Option<Stand>, NoMemory>
     requires { PlaceWithin (length s.now) next }
-    ensures stand { IfOk result (λ k. option_map stand_seen k ≡ next_stand_of A.letters s.now (stand_seen stand) next) }
+    ensures stand { IfOk result (λ k.
+        option_map stand_seen k ≡ next_stand_of A.letters s.now (stand_seen stand) next) }
     ensures within { IfOk result (StandWithin (length s.now)) }
 {
     match next {

@@ -40,7 +40,11 @@ fn put_match<A: Alphabet>(
     next: Option<usize>,
 ) -> Result<(), Halt>
     requires { PlaceWithin (length s.now) next }
-    ensures replaced { IsReplaced (meaning.filled_at A.letters s.now (stand_seen stand) replacement.now found.now) (span_of s.now far.old.copied found.now.start) found.now.end (meaning.next_stand A.letters s.now (stand_seen stand) next) far.old left.old far.new left.new result }
+    ensures replaced { IsReplaced
+        (meaning.filled_at A.letters s.now (stand_seen stand) replacement.now found.now)
+        (span_of s.now far.old.copied found.now.start) found.now.end
+        (meaning.next_stand A.letters s.now (stand_seen stand) next) far.old left.old far.new
+        left.new result }
     ensures within { OnOk result (StandWithin (length s.now) far.new.next) }
 {
     let next = next_stand::<A>(s, stand, next)?;
@@ -123,7 +127,10 @@ fn replace_matches<A: Alphabet>(
     replacement: &[u8],
     limit: u64,
 ) -> Result<Far, Halt>
-    ensures { IsRest (meaning.replaced_from A.letters pattern.now.anchored pattern.now.items pattern.now.slots s.now replacement.now limit 0 (Some meaning.at_head)) s.now left.old left.new result }
+    ensures { IsRest
+        (meaning.replaced_from A.letters pattern.now.anchored pattern.now.items pattern.now.slots
+        s.now replacement.now limit 0 (Some meaning.at_head))
+        s.now left.old left.new result }
 {
     let mut far = begin_far(alloc, s)?;
     'matches: for _turn in 0..limit {
@@ -167,7 +174,10 @@ pub fn replace_all<A: Alphabet>(
     replacement: &[u8],
     limit: u64,
 ) -> Result<Far, Halt>
-    ensures { IsPaidText (meaning.replaced_from A.letters pattern.now.anchored pattern.now.items pattern.now.slots s.now replacement.now limit 0 (Some meaning.at_head)) left.old left.new result }
+    ensures { IsPaidText
+        (meaning.replaced_from A.letters pattern.now.anchored pattern.now.items pattern.now.slots
+        s.now replacement.now limit 0 (Some meaning.at_head))
+        left.old left.new result }
 {
     let mut far = replace_matches::<A>(alloc, left, pattern, s, replacement, limit)?;
     put_rest(left, &mut far.text, behind(s, far.copied))?;

@@ -22,7 +22,8 @@ use std::alloc::Global;
 
 /// A piece in the place of a match, which is paid for already, is put behind the text.
 fn put_piece(far: &mut Far, piece: &[u8]) -> Result<(), NoMemory>
-    ensures piece { OnOk result (far_seen far.new ≡ meaning.with_piece (far_seen far.old) piece.now) }
+    ensures piece { OnOk result (far_seen far.new
+        ≡ meaning.with_piece (far_seen far.old) piece.now) }
     ensures next { OnOk result (far.new.next ≡ far.old.next) }
 {
     let count = one_more(far.count)?;
@@ -57,7 +58,8 @@ fn give_piece(left: &mut Left, far: &mut Far, piece: &[u8]) -> Result<Given, NoM
 
 /// The message that this kind of value is no replacement.
 fn refusal(alloc: Global, kind: &[u8]) -> Result<Vec<u8>, NoMemory>
-    ensures { IfOk result (λ text. text.items ≡ codes "invalid replacement value (a " ++ kind.now ++ codes ")") }
+    ensures { IfOk result (λ text.
+        text.items ≡ codes "invalid replacement value (a " ++ kind.now ++ codes ")") }
 {
     let mut text = Vec::new(alloc);
     push_all(&mut text, b"invalid replacement value (a ")?;
@@ -68,7 +70,11 @@ fn refusal(alloc: Global, kind: &[u8]) -> Result<Vec<u8>, NoMemory>
 
 /// A value is no replacement.
 fn refuse(alloc: Global, value: Value) -> Result<Given, NoMemory>
-    ensures { (texts : Items (Items ℕ)) (f g : FarState) (l : Allowance) → IfOk result (IsGiven (Err (codes "invalid replacement value (a " ++ plain.kind_of (seen texts value) ++ codes ")")) f l g l) }
+    ensures { (texts : Items (Items ℕ)) (f g : FarState) (l : Allowance)
+        → IfOk result (IsGiven
+        (Err
+        (codes "invalid replacement value (a " ++ plain.kind_of (seen texts value) ++ codes ")"))
+        f l g l) }
 {
     let message = refusal(alloc, kind_of(value))?;
     Ok(Given::Refused(message))
@@ -81,7 +87,8 @@ fn give_number(
     far: &mut Far,
     number: i64,
 ) -> Result<Given, NoMemory>
-    ensures given { IfOk result (IsGiven (Ok (signed_decimal number)) far.old left.old far.new left.new) }
+    ensures given { IfOk result (IsGiven (Ok (signed_decimal number)) far.old left.old far.new
+        left.new) }
     ensures next { OnOk result (far.new.next ≡ far.old.next) }
 {
     let digits = lua_number::text(alloc, number)?;
@@ -97,7 +104,8 @@ fn give_flag(
     whole: &[u8],
     flag: bool,
 ) -> Result<Given, NoMemory>
-    ensures given { IfOk result (IsGiven (meaning.replacement_given whole.now (kind.Truth flag)) far.old left.old far.new left.new) }
+    ensures given { IfOk result (IsGiven (meaning.replacement_given whole.now (kind.Truth flag))
+        far.old left.old far.new left.new) }
     ensures next { OnOk result (far.new.next ≡ far.old.next) }
 {
     if flag {
@@ -117,7 +125,9 @@ pub fn put_given(
     value: Value,
 ) -> Result<Given, NoMemory>
     requires { IsOf store.now value }
-    ensures given { IfOk result (IsGiven (meaning.replacement_given whole.now (seen store.now.texts value)) far.old left.old far.new left.new) }
+    ensures given { IfOk result (IsGiven
+        (meaning.replacement_given whole.now (seen store.now.texts value)) far.old left.old far.new
+        left.new) }
     ensures next { OnOk result (far.new.next ≡ far.old.next) }
 {
     match value {
@@ -134,7 +144,8 @@ pub fn put_given(
 
 /// The rest of the subject is put behind the text, for a step a byte.
 pub fn complete(left: &mut Left, s: &[u8], far: &mut Far) -> Result<(), Halt>
-    ensures complete { IsTail (drop far.old.copied s.now) far.old.text.items left.old far.new.text.items left.new result }
+    ensures complete { IsTail (drop far.old.copied s.now) far.old.text.items left.old
+        far.new.text.items left.new result }
     ensures count { far.new.count ≡ far.old.count }
 {
     put_rest(left, &mut far.text, behind(s, far.copied))

@@ -36,7 +36,8 @@ fn hold_match<A: Alphabet>(
     next: Option<usize>,
 ) -> Result<Sought, NoMemory>
     requires { PlaceWithin (length s.now) next }
-    ensures holds_match { IfOk result (IsHeld A.letters s.now (stand_seen stand) found.now next store.new far.old far.new) }
+    ensures holds_match { IfOk result (IsHeld A.letters s.now (stand_seen stand) found.now next
+        store.new far.old far.new) }
     ensures of { IfOk result (SoughtOf store.new) }
     ensures within { OnOk result (StandWithin (length s.now) far.new.next) }
     ensures heap { store.new.heap ≡ store.old.heap }
@@ -61,9 +62,12 @@ fn seek_from<A: Alphabet>(
     stand: Stand,
 ) -> Result<Sought, Stop>
     requires { stand.at ≤ length s.now }
-    ensures walked { IsWalked A.letters s.now (stand_seen stand) pattern.now.slots (walk A.letters pattern.now.anchored pattern.now.items s.now stand.at) store.old store.new far.old far.new left.old left.new result }
+    ensures walked { IsWalked A.letters s.now (stand_seen stand) pattern.now.slots
+        (walk A.letters pattern.now.anchored pattern.now.items s.now stand.at) store.old
+        store.new far.old far.new left.old left.new result }
     ensures of { IfOk result (SoughtOf store.new) }
-    ensures within { OnOk result (StandWithin (length s.now) far.old.next → StandWithin (length s.now) far.new.next) }
+    ensures within { OnOk result (StandWithin (length s.now) far.old.next
+        → StandWithin (length s.now) far.new.next) }
     ensures heap { store.new.heap ≡ store.old.heap }
     ensures later { IsLater store.old store.new }
 {
@@ -88,10 +92,15 @@ pub fn seek(
     far: &mut Far,
 ) -> Result<Sought, Stop>
     requires job { JobOf store.old job.now }
-    requires within { StandWithin (length (text_at store.old.texts job.now.subject.at)) far.old.next }
-    ensures sought { (limit : ℕ) → IsSought (meaning.search (job_seen store.old.texts job.now) limit (far_seen far.old)) (text_at store.old.texts job.now.subject.at) store.old store.new far.old far.new left.old left.new result }
+    requires within { StandWithin (length (text_at store.old.texts job.now.subject.at))
+        far.old.next }
+    ensures sought { (limit : ℕ)
+        → IsSought (meaning.search (job_seen store.old.texts job.now) limit (far_seen far.old))
+        (text_at store.old.texts job.now.subject.at) store.old
+        store.new far.old far.new left.old left.new result }
     ensures of { IfOk result (SoughtOf store.new) }
-    ensures within { OnOk result (StandWithin (length (text_at store.old.texts job.now.subject.at)) far.new.next) }
+    ensures within { OnOk result (StandWithin (length (text_at store.old.texts job.now.subject.at))
+        far.new.next) }
     ensures heap { store.new.heap ≡ store.old.heap }
     ensures later { IsLater store.old store.new }
 {

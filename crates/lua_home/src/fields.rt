@@ -32,7 +32,8 @@ fn value_of(store: &mut Store, item: Item) -> Result<Value, NoMemory>
     ensures of { IfOk result (IsOf store.new) }
     ensures value { IfOk result (λ v. seen store.new.texts v ≡ item_seen item) }
     ensures heap { store.new.heap ≡ store.old.heap }
-    ensures stays { (v : own.Value) → IsOf store.old v → IsOf store.new v × (seen store.new.texts v ≡ seen store.old.texts v) }
+    ensures stays { (v : own.Value) → IsOf store.old v
+        → IsOf store.new v × (seen store.new.texts v ≡ seen store.old.texts v) }
     ensures later { IsLater store.old store.new }
 {
     match item {
@@ -49,7 +50,8 @@ fn value_of(store: &mut Store, item: Item) -> Result<Value, NoMemory>
 fn set_field(store: &mut Store, table: TableId, name: &[u8], item: Item) -> Result<(), NoMemory>
     requires table { IsTableOf store.old table }
     requires item { IsItemOf store.old item }
-    ensures put { OnOk result (store.new.heap ≡ set_in store.old.heap table.at (kind.Text name.now) (item_seen item)) }
+    ensures put { OnOk result (store.new.heap
+        ≡ set_in store.old.heap table.at (kind.Text name.now) (item_seen item)) }
     ensures later { IsLater store.old store.new }
 {
     let value = value_of(store, item)?;
@@ -73,7 +75,8 @@ fn split_fields(fields: &[Field]) -> Option<(Field, &[Field])>
 pub fn fill(store: &mut Store, table: TableId, fields: &[Field]) -> Result<(), NoMemory>
     requires table { IsTableOf store.old table }
     requires fields { AllByRecursion (IsFieldOf store.old) fields.now }
-    ensures put { OnOk result (store.new.heap ≡ filled table.at (fields_seen fields.now) store.old.heap) }
+    ensures put { OnOk result (store.new.heap
+        ≡ filled table.at (fields_seen fields.now) store.old.heap) }
     ensures later { IsLater store.old store.new }
 {
     let mut rest = fields;

@@ -55,7 +55,8 @@ fn new_tables(store: &mut Store) -> Result<Tables, NoMemory>
 /// The first global variables.
 fn fill_first(store: &mut Store, tables: &Tables) -> Result<(), NoMemory>
     requires { AreTablesOf store.old tables.now }
-    ensures put { OnOk result (store.new.heap ≡ filled tables.now.globals.at (first_globals tables.now) store.old.heap) }
+    ensures put { OnOk result (store.new.heap
+        ≡ filled tables.now.globals.at (first_globals tables.now) store.old.heap) }
     ensures later { IsLater store.old store.new }
 {
     let fields = [
@@ -98,7 +99,8 @@ fn fill_first(store: &mut Store, tables: &Tables) -> Result<(), NoMemory>
 /// Those behind them.
 fn fill_middle(store: &mut Store, tables: &Tables) -> Result<(), NoMemory>
     requires { AreTablesOf store.old tables.now }
-    ensures put { OnOk result (store.new.heap ≡ filled tables.now.globals.at middle_globals store.old.heap) }
+    ensures put { OnOk result (store.new.heap
+        ≡ filled tables.now.globals.at middle_globals store.old.heap) }
     ensures later { IsLater store.old store.new }
 {
     let fields = [
@@ -141,7 +143,8 @@ fn fill_middle(store: &mut Store, tables: &Tables) -> Result<(), NoMemory>
 /// The last of them.
 fn fill_last(store: &mut Store, tables: &Tables) -> Result<(), NoMemory>
     requires { AreTablesOf store.old tables.now }
-    ensures put { OnOk result (store.new.heap ≡ filled tables.now.globals.at (last_globals tables.now) store.old.heap) }
+    ensures put { OnOk result (store.new.heap
+        ≡ filled tables.now.globals.at (last_globals tables.now) store.old.heap) }
     ensures later { IsLater store.old store.new }
 {
     let fields = [
@@ -184,7 +187,8 @@ fn fill_last(store: &mut Store, tables: &Tables) -> Result<(), NoMemory>
 /// The first fields of `string`.
 fn fill_first_strings(store: &mut Store, tables: &Tables) -> Result<(), NoMemory>
     requires { AreTablesOf store.old tables.now }
-    ensures put { OnOk result (store.new.heap ≡ filled tables.now.strings.at first_strings store.old.heap) }
+    ensures put { OnOk result (store.new.heap
+        ≡ filled tables.now.strings.at first_strings store.old.heap) }
     ensures later { IsLater store.old store.new }
 {
     let fields = [
@@ -227,7 +231,8 @@ fn fill_first_strings(store: &mut Store, tables: &Tables) -> Result<(), NoMemory
 /// Those behind them.
 fn fill_last_strings(store: &mut Store, tables: &Tables) -> Result<(), NoMemory>
     requires { AreTablesOf store.old tables.now }
-    ensures put { OnOk result (store.new.heap ≡ filled tables.now.strings.at last_strings store.old.heap) }
+    ensures put { OnOk result (store.new.heap
+        ≡ filled tables.now.strings.at last_strings store.old.heap) }
     ensures later { IsLater store.old store.new }
 {
     let fields = [
@@ -258,7 +263,8 @@ fn fill_last_strings(store: &mut Store, tables: &Tables) -> Result<(), NoMemory>
 /// The fields of `mw`.
 fn fill_mw(store: &mut Store, tables: &Tables) -> Result<(), NoMemory>
     requires { AreTablesOf store.old tables.now }
-    ensures put { OnOk result (store.new.heap ≡ filled tables.now.mw.at (mw_fields tables.now) store.old.heap) }
+    ensures put { OnOk result (store.new.heap
+        ≡ filled tables.now.mw.at (mw_fields tables.now) store.old.heap) }
     ensures later { IsLater store.old store.new }
 {
     let fields = [
@@ -301,7 +307,8 @@ fn fill_mw(store: &mut Store, tables: &Tables) -> Result<(), NoMemory>
 /// The field of `mw.title`.
 fn fill_title(store: &mut Store, tables: &Tables) -> Result<(), NoMemory>
     requires { AreTablesOf store.old tables.now }
-    ensures put { OnOk result (store.new.heap ≡ filled tables.now.title.at title_fields store.old.heap) }
+    ensures put { OnOk result (store.new.heap
+        ≡ filled tables.now.title.at title_fields store.old.heap) }
     ensures later { IsLater store.old store.new }
 {
     let fields = [Field {
@@ -314,7 +321,8 @@ fn fill_title(store: &mut Store, tables: &Tables) -> Result<(), NoMemory>
 /// The fields of `table`.
 fn fill_tables(store: &mut Store, tables: &Tables) -> Result<(), NoMemory>
     requires { AreTablesOf store.old tables.now }
-    ensures put { OnOk result (store.new.heap ≡ filled tables.now.tables.at table_fields store.old.heap) }
+    ensures put { OnOk result (store.new.heap
+        ≡ filled tables.now.tables.at table_fields store.old.heap) }
     ensures later { IsLater store.old store.new }
 {
     let fields = [
@@ -345,7 +353,8 @@ fn fill_tables(store: &mut Store, tables: &Tables) -> Result<(), NoMemory>
 /// The fields of `math`.
 fn fill_math(store: &mut Store, tables: &Tables) -> Result<(), NoMemory>
     requires { AreTablesOf store.old tables.now }
-    ensures put { OnOk result (store.new.heap ≡ filled tables.now.math.at math_fields store.old.heap) }
+    ensures put { OnOk result (store.new.heap
+        ≡ filled tables.now.math.at math_fields store.old.heap) }
     ensures later { IsLater store.old store.new }
 {
     let fields = [
@@ -384,7 +393,8 @@ fn fill_math(store: &mut Store, tables: &Tables) -> Result<(), NoMemory>
 /// The first fields of `mw.ustring`.
 fn fill_first_ustring(store: &mut Store, tables: &Tables) -> Result<(), NoMemory>
     requires { AreTablesOf store.old tables.now }
-    ensures put { OnOk result (store.new.heap ≡ filled tables.now.ustring.at first_ustring store.old.heap) }
+    ensures put { OnOk result (store.new.heap
+        ≡ filled tables.now.ustring.at first_ustring store.old.heap) }
     ensures later { IsLater store.old store.new }
 {
     let fields = [
@@ -427,7 +437,8 @@ fn fill_first_ustring(store: &mut Store, tables: &Tables) -> Result<(), NoMemory
 /// Those behind them.
 fn fill_last_ustring(store: &mut Store, tables: &Tables) -> Result<(), NoMemory>
     requires { AreTablesOf store.old tables.now }
-    ensures put { OnOk result (store.new.heap ≡ filled tables.now.ustring.at last_ustring store.old.heap) }
+    ensures put { OnOk result (store.new.heap
+        ≡ filled tables.now.ustring.at last_ustring store.old.heap) }
     ensures later { IsLater store.old store.new }
 {
     let fields = [
@@ -466,7 +477,8 @@ fn fill_last_ustring(store: &mut Store, tables: &Tables) -> Result<(), NoMemory>
 /// The first fields of `mw.text`.
 fn fill_first_text(store: &mut Store, tables: &Tables) -> Result<(), NoMemory>
     requires { AreTablesOf store.old tables.now }
-    ensures put { OnOk result (store.new.heap ≡ filled tables.now.text.at first_text store.old.heap) }
+    ensures put { OnOk result (store.new.heap
+        ≡ filled tables.now.text.at first_text store.old.heap) }
     ensures later { IsLater store.old store.new }
 {
     let fields = [
@@ -497,7 +509,8 @@ fn fill_first_text(store: &mut Store, tables: &Tables) -> Result<(), NoMemory>
 /// Those behind them.
 fn fill_last_text(store: &mut Store, tables: &Tables) -> Result<(), NoMemory>
     requires { AreTablesOf store.old tables.now }
-    ensures put { OnOk result (store.new.heap ≡ filled tables.now.text.at last_text store.old.heap) }
+    ensures put { OnOk result (store.new.heap
+        ≡ filled tables.now.text.at last_text store.old.heap) }
     ensures later { IsLater store.old store.new }
 {
     let fields = [
@@ -524,7 +537,8 @@ fn fill_last_text(store: &mut Store, tables: &Tables) -> Result<(), NoMemory>
 /// The field of `mw.html`.
 fn fill_html(store: &mut Store, tables: &Tables) -> Result<(), NoMemory>
     requires { AreTablesOf store.old tables.now }
-    ensures put { OnOk result (store.new.heap ≡ filled tables.now.html.at html_fields store.old.heap) }
+    ensures put { OnOk result (store.new.heap
+        ≡ filled tables.now.html.at html_fields store.old.heap) }
     ensures later { IsLater store.old store.new }
 {
     let fields = [Field {
@@ -537,7 +551,8 @@ fn fill_html(store: &mut Store, tables: &Tables) -> Result<(), NoMemory>
 /// The global variables.
 fn fill_globals(store: &mut Store, tables: &Tables) -> Result<(), NoMemory>
     requires { AreTablesOf store.old tables.now }
-    ensures put { OnOk result (store.new.heap ≡ filled tables.now.globals.at (global_fields tables.now) store.old.heap) }
+    ensures put { OnOk result (store.new.heap
+        ≡ filled tables.now.globals.at (global_fields tables.now) store.old.heap) }
     ensures later { IsLater store.old store.new }
 {
     fill_first(store, tables)?;
@@ -549,7 +564,8 @@ fn fill_globals(store: &mut Store, tables: &Tables) -> Result<(), NoMemory>
 /// The fields of `string`.
 fn fill_strings(store: &mut Store, tables: &Tables) -> Result<(), NoMemory>
     requires { AreTablesOf store.old tables.now }
-    ensures put { OnOk result (store.new.heap ≡ filled tables.now.strings.at string_fields store.old.heap) }
+    ensures put { OnOk result (store.new.heap
+        ≡ filled tables.now.strings.at string_fields store.old.heap) }
     ensures later { IsLater store.old store.new }
 {
     fill_first_strings(store, tables)?;
@@ -560,7 +576,8 @@ fn fill_strings(store: &mut Store, tables: &Tables) -> Result<(), NoMemory>
 /// The fields of `mw.ustring`.
 fn fill_ustring(store: &mut Store, tables: &Tables) -> Result<(), NoMemory>
     requires { AreTablesOf store.old tables.now }
-    ensures put { OnOk result (store.new.heap ≡ filled tables.now.ustring.at ustring_fields store.old.heap) }
+    ensures put { OnOk result (store.new.heap
+        ≡ filled tables.now.ustring.at ustring_fields store.old.heap) }
     ensures later { IsLater store.old store.new }
 {
     fill_first_ustring(store, tables)?;
@@ -571,7 +588,8 @@ fn fill_ustring(store: &mut Store, tables: &Tables) -> Result<(), NoMemory>
 /// The fields of `mw.text`.
 fn fill_text(store: &mut Store, tables: &Tables) -> Result<(), NoMemory>
     requires { AreTablesOf store.old tables.now }
-    ensures put { OnOk result (store.new.heap ≡ filled tables.now.text.at text_fields store.old.heap) }
+    ensures put { OnOk result (store.new.heap
+        ≡ filled tables.now.text.at text_fields store.old.heap) }
     ensures later { IsLater store.old store.new }
 {
     fill_first_text(store, tables)?;

@@ -28,7 +28,8 @@ fn step_on(
     cells: IteratorCells,
 ) -> Result<List<Value>, Stop>
     requires { AreOf store.old cells }
-    ensures answer { Paid (step_of which (cells_seen cells) store.old.heap) store.old left.old store.new left.new result }
+    ensures answer { Paid (step_of which (cells_seen cells) store.old.heap) store.old left.old
+        store.new left.new result }
     ensures of { AnswerOf store.new result }
     ensures later { IsLater store.old store.new }
 {
@@ -49,7 +50,9 @@ fn step(
     args: &[Value],
 ) -> Result<List<Value>, Stop>
     requires { AllOf store.old args.now }
-    ensures answer { Paid (iterator_step (step_of which) (values_seen store.old.texts args.now) store.old.heap) store.old left.old store.new left.new result }
+    ensures answer { Paid
+        (iterator_step (step_of which) (values_seen store.old.texts args.now) store.old.heap)
+        store.old left.old store.new left.new result }
     ensures of { AnswerOf store.new result }
     ensures later { IsLater store.old store.new }
 {
@@ -68,7 +71,8 @@ fn make(
     args: &[Value],
 ) -> Result<List<Value>, Stop>
     requires { AllOf store.old args.now }
-    ensures answer { Paid (made_by which (values_seen store.old.texts args.now) store.old.heap) store.old left.old store.new left.new result }
+    ensures answer { Paid (made_by which (values_seen store.old.texts args.now) store.old.heap)
+        store.old left.old store.new left.new result }
     ensures of { AnswerOf store.new result }
     ensures later { IsLater store.old store.new }
 {
@@ -89,7 +93,8 @@ fn give(
     args: &[Value],
 ) -> Result<List<Value>, Stop>
     requires { AllOf store.old args.now }
-    ensures answer { Paid (given_by which (values_seen store.old.texts args.now) store.old.heap) store.old left.old store.new left.new result }
+    ensures answer { Paid (given_by which (values_seen store.old.texts args.now) store.old.heap)
+        store.old left.old store.new left.new result }
     ensures of { AnswerOf store.new result }
     ensures later { IsLater store.old store.new }
 {
@@ -107,7 +112,8 @@ fn pay_args(
     args: &[Value],
 ) -> Result<(), Stop>
     requires { AllOf store.now args.now }
-    ensures { Pays (args_charge which (values_seen store.now.texts args.now)) left.old left.new result }
+    ensures { Pays (args_charge which (values_seen store.now.texts args.now)) left.old
+        left.new result }
 {
     match which {
         IteratorFunction::Makes(Maker::Gmatch) => pay(left, 0),
@@ -129,7 +135,8 @@ pub fn iterator_call(
     args: &[Value],
 ) -> Result<List<Value>, Stop>
     requires { AllOf store.old args.now }
-    ensures answer { Paid (answer_of which (values_seen store.old.texts args.now) store.old.heap) store.old left.old store.new left.new result }
+    ensures answer { Paid (answer_of which (values_seen store.old.texts args.now) store.old.heap)
+        store.old left.old store.new left.new result }
     ensures of { AnswerOf store.new result }
     ensures later { IsLater store.old store.new }
 {

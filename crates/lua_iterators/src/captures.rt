@@ -33,7 +33,9 @@ fn capture_value<A: Alphabet>(
     capture: Capture,
 ) -> Result<Value, NoMemory>
     ensures of { IfOk result (IsOf store.new) }
-    ensures value { IfOk result (λ v. seen store.new.texts v ≡ meaning.capture_given A.letters s.now (record { at = at; before = before }) capture) }
+    ensures value { IfOk result (λ v.
+        seen store.new.texts v
+        ≡ meaning.capture_given A.letters s.now (record { at = at; before = before }) capture) }
     ensures heap { store.new.heap ≡ store.old.heap }
     ensures later { IsLater store.old store.new }
 {
@@ -57,7 +59,10 @@ fn add_captures<A: Alphabet>(
 ) -> Result<(), NoMemory>
     requires { AllOf store.old values.old }
     ensures of { OnOk result (AllOf store.new values.new) }
-    ensures values { OnOk result (values_seen store.new.texts values.new ≡ values_seen store.old.texts values.old ++ meaning.captures_given A.letters s.now (record { at = at; before = before }) captures.now) }
+    ensures values { OnOk result (values_seen store.new.texts values.new
+        ≡ values_seen store.old.texts values.old
+        ++ meaning.captures_given A.letters s.now (record { at = at; before = before })
+        captures.now) }
     ensures heap { store.new.heap ≡ store.old.heap }
     ensures later { IsLater store.old store.new }
 {
@@ -79,7 +84,8 @@ fn whole_match(
     end: usize,
 ) -> Result<List<Value>, NoMemory>
     ensures of { IfOk result (AllOf store.new) }
-    ensures values { IfOk result (λ values. values_seen store.new.texts values ≡ kind.Text (span_of s.now start end) ∷ []) }
+    ensures values { IfOk result (λ values.
+        values_seen store.new.texts values ≡ kind.Text (span_of s.now start end) ∷ []) }
     ensures heap { store.new.heap ≡ store.old.heap }
     ensures later { IsLater store.old store.new }
 {
@@ -98,7 +104,10 @@ fn all_captures<A: Alphabet>(
     captures: &[Capture],
 ) -> Result<List<Value>, NoMemory>
     ensures of { IfOk result (AllOf store.new) }
-    ensures values { IfOk result (λ values. values_seen store.new.texts values ≡ meaning.captures_given A.letters s.now (record { at = at; before = before }) captures.now) }
+    ensures values { IfOk result (λ values.
+        values_seen store.new.texts values
+        ≡ meaning.captures_given A.letters s.now (record { at = at; before = before })
+        captures.now) }
     ensures heap { store.new.heap ≡ store.old.heap }
     ensures later { IsLater store.old store.new }
 {
@@ -117,7 +126,9 @@ pub fn match_values<A: Alphabet>(
     found: &Match,
 ) -> Result<List<Value>, NoMemory>
     ensures of { IfOk result (AllOf store.new) }
-    ensures values { IfOk result (λ values. values_seen store.new.texts values ≡ meaning.match_given A.letters s.now (record { at = at; before = before }) found.now) }
+    ensures values { IfOk result (λ values.
+        values_seen store.new.texts values
+        ≡ meaning.match_given A.letters s.now (record { at = at; before = before }) found.now) }
     ensures heap { store.new.heap ≡ store.old.heap }
     ensures later { IsLater store.old store.new }
 {

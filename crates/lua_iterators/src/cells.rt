@@ -20,7 +20,8 @@ pub struct IteratorCells {
 
 /// The cells of a closure that is an iterator; none of a function.
 fn closure_cells(closure: &Closure) -> &[CellId]
-    ensures cells { (texts : Items (Items ℕ)) → places_of result.now ≡ meaning.cells_of (Some (seen_closure texts closure.now)) }
+    ensures cells { (texts : Items (Items ℕ))
+        → places_of result.now ≡ meaning.cells_of (Some (seen_closure texts closure.now)) }
     ensures of { (s : StoreView) → IsContentOf s closure.now → AreCellsOf s result.now }
 {
     match closure.kind {
@@ -32,7 +33,8 @@ fn closure_cells(closure: &Closure) -> &[CellId]
 /// The cells of a value that is an iterator; none of any other.
 fn iterator_cells<'s>(store: &'s Store, value: Value) -> &'s [CellId]
     requires { IsOf store.now value }
-    ensures cells { places_of result.now ≡ meaning.iterator_cells store.now.heap (seen store.now.texts value) }
+    ensures cells { places_of result.now
+        ≡ meaning.iterator_cells store.now.heap (seen store.now.texts value) }
     ensures of { AreCellsOf store.now result.now }
 {
     match value {
@@ -85,7 +87,8 @@ fn two(cells: &[CellId]) -> Option<(CellId, CellId)>
 
 /// These cells, where they are four.
 fn four(cells: &[CellId]) -> Option<IteratorCells>
-    ensures cells { MatchOption result (meaning.cells_in (places_of cells.now) ≡ None) (λ c. meaning.cells_in (places_of cells.now) ≡ Some (cells_seen c)) }
+    ensures cells { MatchOption result (meaning.cells_in (places_of cells.now) ≡ None) (λ c.
+        meaning.cells_in (places_of cells.now) ≡ Some (cells_seen c)) }
     ensures of { IfSome result (λ c. (s : StoreView) → AreCellsOf s cells.now → AreOf s c) }
 {
     match split_two(cells) {
@@ -105,7 +108,12 @@ fn four(cells: &[CellId]) -> Option<IteratorCells>
 /// The four cells of an iterator.
 pub fn cells_of(store: &Store, value: Value) -> Option<IteratorCells>
     requires { IsOf store.now value }
-    ensures cells { MatchOption result (meaning.cells_in (meaning.iterator_cells store.now.heap (seen store.now.texts value)) ≡ None) (λ c. meaning.cells_in (meaning.iterator_cells store.now.heap (seen store.now.texts value)) ≡ Some (cells_seen c)) }
+    ensures cells { MatchOption result
+        (meaning.cells_in (meaning.iterator_cells store.now.heap (seen store.now.texts value))
+        ≡ None)
+        (λ c.
+        meaning.cells_in (meaning.iterator_cells store.now.heap (seen store.now.texts value))
+        ≡ Some (cells_seen c)) }
     ensures of { IfSome result (AreOf store.now) }
 {
     four(iterator_cells(store, value))
@@ -189,7 +197,8 @@ fn place_of(n: i64, size: usize) -> Option<usize>
 /// The place that a value is.
 fn place_held(value: Value, size: usize) -> Option<usize>
     ensures within { IfSome result (λ at. at ≤ size) }
-    ensures place { (texts : Items (Items ℕ)) → result ≡ meaning.held_place size (seen texts value) }
+    ensures place { (texts : Items (Items ℕ))
+        → result ≡ meaning.held_place size (seen texts value) }
 {
     match value {
         Value::Number(n) => place_of(n, size),

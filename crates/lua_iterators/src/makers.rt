@@ -23,7 +23,8 @@ pub fn gmatch(
     args: &[Value],
 ) -> Result<List<Value>, Stop>
     requires { AllOf store.old args.now }
-    ensures answer { Paid (meaning.gmatch (values_seen store.old.texts args.now) store.old.heap) store.old left.old store.new left.new result }
+    ensures answer { Paid (meaning.gmatch (values_seen store.old.texts args.now) store.old.heap)
+        store.old left.old store.new left.new result }
     ensures of { AnswerOf store.new result }
     ensures later { IsLater store.old store.new }
 {
@@ -51,7 +52,9 @@ pub fn ustring_gmatch(
     args: &[Value],
 ) -> Result<List<Value>, Stop>
     requires { AllOf store.old args.now }
-    ensures answer { Paid (meaning.ustring_gmatch (values_seen store.old.texts args.now) store.old.heap) store.old left.old store.new left.new result }
+    ensures answer { Paid
+        (meaning.ustring_gmatch (values_seen store.old.texts args.now) store.old.heap) store.old
+        left.old store.new left.new result }
     ensures of { AnswerOf store.new result }
     ensures later { IsLater store.old store.new }
 {
@@ -80,7 +83,8 @@ pub fn gsplit(
     args: &[Value],
 ) -> Result<List<Value>, Stop>
     requires { AllOf store.old args.now }
-    ensures answer { Paid (meaning.gsplit (values_seen store.old.texts args.now) store.old.heap) store.old left.old store.new left.new result }
+    ensures answer { Paid (meaning.gsplit (values_seen store.old.texts args.now) store.old.heap)
+        store.old left.old store.new left.new result }
     ensures of { AnswerOf store.new result }
     ensures later { IsLater store.old store.new }
 {
@@ -111,7 +115,9 @@ fn make_points(
     to: i64,
 ) -> Result<List<Value>, Stop>
     requires { IsUtf8 s.now }
-    ensures answer { Paid (meaning.make_gcodepoint (encode_utf8_all (points_of s.now from to)) store.old.heap) store.old left.old store.new left.new result }
+    ensures answer { Paid
+        (meaning.make_gcodepoint (encode_utf8_all (points_of s.now from to)) store.old.heap)
+        store.old left.old store.new left.new result }
     ensures of { AnswerOf store.new result }
     ensures later { IsLater store.old store.new }
 {
@@ -126,7 +132,8 @@ pub fn gcodepoint(
     args: &[Value],
 ) -> Result<List<Value>, Stop>
     requires { AllOf store.old args.now }
-    ensures answer { Paid (meaning.gcodepoint (values_seen store.old.texts args.now) store.old.heap) store.old left.old store.new left.new result }
+    ensures answer { Paid (meaning.gcodepoint (values_seen store.old.texts args.now) store.old.heap)
+        store.old left.old store.new left.new result }
     ensures of { AnswerOf store.new result }
     ensures later { IsLater store.old store.new }
 {

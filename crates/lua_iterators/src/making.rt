@@ -13,7 +13,9 @@ ghost use Rattle.lua_iterators.specs.Held.{AreOf};
 
 use crate::cells::IteratorCells;
 use lua_string::{List, NoMemory};
-use lua_strings::{CellId, ClosureId, ClosureKind, Left, Library, Stop, Store, Value, single};
+use lua_strings::{
+    CLOSURE_CHARGE, CellId, ClosureId, ClosureKind, Left, Library, Stop, Store, Value, single,
+};
 use mw_ustrings::pay;
 use std::alloc::Global;
 
@@ -21,7 +23,11 @@ use std::alloc::Global;
 fn add_cell(store: &mut Store, value: Value) -> Result<CellId, NoMemory>
     requires { IsOf store.old value }
     ensures of { IfOk result (IsCellOf store.new) }
-    ensures made { IfOk result (λ id. (more : Items kind.Value) (h : Heap Proc) (ids : Items ℕ) → meaning.new_cells more store.new.heap ≡ (h, ids) → meaning.new_cells (seen store.old.texts value ∷ more) store.old.heap ≡ (h, id.at ∷ ids)) }
+    ensures made { IfOk result (λ id.
+        (more : Items kind.Value) (h : Heap Proc) (ids : Items ℕ)
+        → meaning.new_cells more store.new.heap ≡ (h, ids)
+        → meaning.new_cells (seen store.old.texts value ∷ more) store.old.heap
+        ≡ (h, id.at ∷ ids)) }
     ensures texts { store.new.texts ≡ store.old.texts }
     ensures later { IsLater store.old store.new }
 {
@@ -41,7 +47,12 @@ fn four_cells(
     requires place { IsOf store.old place }
     requires other { IsOf store.old other }
     ensures of { IfOk result (AreOf store.new) }
-    ensures made { IfOk result (λ c. meaning.new_cells (seen store.old.texts subject ∷ seen store.old.texts pattern ∷ seen store.old.texts place ∷ seen store.old.texts other ∷ []) store.old.heap ≡ (store.new.heap, c.subject.at ∷ c.pattern.at ∷ c.place.at ∷ c.other.at ∷ [])) }
+    ensures made { IfOk result (λ c.
+        meaning.new_cells
+        (seen store.old.texts subject ∷ seen store.old.texts pattern
+        ∷ seen store.old.texts place ∷ seen store.old.texts other ∷ [])
+        store.old.heap
+        ≡ (store.new.heap, c.subject.at ∷ c.pattern.at ∷ c.place.at ∷ c.other.at ∷ [])) }
     ensures texts { store.new.texts ≡ store.old.texts }
     ensures later { IsLater store.old store.new }
 {
@@ -59,7 +70,8 @@ fn four_cells(
 
 /// The cells as a list.
 fn cell_list(alloc: Global, cells: IteratorCells) -> Result<List<CellId>, NoMemory>
-    ensures { IfOk result (λ ids. ids ≡ cells.subject ∷ cells.pattern ∷ cells.place ∷ cells.other ∷ []) }
+    ensures { IfOk result (λ ids.
+        ids ≡ cells.subject ∷ cells.pattern ∷ cells.place ∷ cells.other ∷ []) }
 {
     let mut ids = List::new(alloc);
     ids.push(cells.subject)?;
@@ -78,8 +90,11 @@ fn new_iterator(
 ) -> Result<ClosureId, NoMemory>
     requires { AreOf store.old cells }
     ensures of { IfOk result (IsClosureOf store.new) }
-    ensures id { IfOk result (λ id. id.at ≡ (new_closure store.old.heap (Iterator step (cells.subject.at ∷ cells.pattern.at ∷ cells.place.at ∷ cells.other.at ∷ []))).1) }
-    ensures made { OnOk result (store.new.heap ≡ (new_closure store.old.heap (Iterator step (cells.subject.at ∷ cells.pattern.at ∷ cells.place.at ∷ cells.other.at ∷ []))).0) }
+    ensures id { IfOk result (λ id.
+        id.at
+        ≡ (new_closure store.old.heap (Iterator step (cells.subject.at ∷ cells.pattern.at ∷ cells.place.at ∷ cells.other.at ∷ []))).1) }
+    ensures made { OnOk result (store.new.heap
+        ≡ (new_closure store.old.heap (Iterator step (cells.subject.at ∷ cells.pattern.at ∷ cells.place.at ∷ cells.other.at ∷ []))).0) }
     ensures texts { store.new.texts ≡ store.old.texts }
     ensures later { IsLater store.old store.new }
 {
@@ -99,8 +114,11 @@ fn give_iterator(
     requires subject { IsOf store.old subject }
     requires pattern { IsOf store.old pattern }
     requires other { IsOf store.old other }
-    ensures end { IfOk result (λ values. (meaning.make_iterator step (seen store.old.texts subject ∷ seen store.old.texts pattern ∷ kind.Number (pos 0) ∷ seen store.old.texts other ∷ []) store.old.heap).end ≡ Gives (values_seen store.new.texts values)) }
-    ensures heap { OnOk result ((meaning.make_iterator step (seen store.old.texts subject ∷ seen store.old.texts pattern ∷ kind.Number (pos 0) ∷ seen store.old.texts other ∷ []) store.old.heap).heap ≡ store.new.heap) }
+    ensures end { IfOk result (λ values.
+        (meaning.make_iterator step (seen store.old.texts subject ∷ seen store.old.texts pattern ∷ kind.Number (pos 0) ∷ seen store.old.texts other ∷ []) store.old.heap).end
+        ≡ Gives (values_seen store.new.texts values)) }
+    ensures heap { OnOk result ((meaning.make_iterator step (seen store.old.texts subject ∷ seen store.old.texts pattern ∷ kind.Number (pos 0) ∷ seen store.old.texts other ∷ []) store.old.heap).heap
+        ≡ store.new.heap) }
     ensures of { IfOk result (AllOf store.new) }
     ensures later { IsLater store.old store.new }
 {
@@ -146,11 +164,16 @@ pub fn make_by_pattern(
     requires pattern { IsOf store.old pattern }
     requires p { text_in (seen store.old.texts pattern) ≡ Some p.now }
     requires other { IsOf store.old other }
-    ensures answer { Paid (meaning.make_iterator step (kind.Text s.now ∷ kind.Text p.now ∷ kind.Number (pos 0) ∷ seen store.old.texts other ∷ []) store.old.heap) store.old left.old store.new left.new result }
+    ensures answer { Paid
+        (meaning.make_iterator step
+        (kind.Text s.now ∷ kind.Text p.now ∷ kind.Number (pos 0) ∷ seen store.old.texts other
+        ∷ [])
+        store.old.heap)
+        store.old left.old store.new left.new result }
     ensures of { AnswerOf store.new result }
     ensures later { IsLater store.old store.new }
 {
-    pay(left, 8)?;
+    pay(left, CLOSURE_CHARGE)?;
     let subject = as_value(store, subject, s)?;
     let pattern = as_value(store, pattern, p)?;
     let values = give_iterator(alloc, store, step, subject, pattern, other)?;
@@ -164,11 +187,12 @@ pub fn make_gcodepoint(
     left: &mut Left,
     part: &[u8],
 ) -> Result<List<Value>, Stop>
-    ensures answer { Paid (meaning.make_gcodepoint part.now store.old.heap) store.old left.old store.new left.new result }
+    ensures answer { Paid (meaning.make_gcodepoint part.now store.old.heap) store.old left.old
+        store.new left.new result }
     ensures of { AnswerOf store.new result }
     ensures later { IsLater store.old store.new }
 {
-    pay(left, 8)?;
+    pay(left, CLOSURE_CHARGE)?;
     let text = store.text(part)?;
     let values = give_iterator(
         alloc,

@@ -62,7 +62,8 @@ fn read_separator<'p>(
     pattern: &'p [u8],
     plain: bool,
 ) -> Result<Separator<'p>, PatternFault>
-    ensures { MatchResult result (λ made. sought_by plain pattern.now ≡ Ok (sought_of made)) (λ e. IsSoughtFault (sought_by plain pattern.now) e) }
+    ensures { MatchResult result (λ made. sought_by plain pattern.now ≡ Ok (sought_of made)) (λ e.
+        IsSoughtFault (sought_by plain pattern.now) e) }
 {
     if plain {
         return Ok(Separator::Plain(pattern));
@@ -82,7 +83,8 @@ fn search(
     budget: u64,
 ) -> Result<Search, NoMemory>
     requires { from ≤ length s.now }
-    ensures { IfOk result (λ met. IsMet budget (found_from (sought_of separator.now) s.now from) met) }
+    ensures { IfOk result (λ met.
+        IsMet budget (found_from (sought_of separator.now) s.now from) met) }
 {
     match separator {
         Separator::Plain(needle) => Ok(plain_find(alloc, s, needle, from)),
@@ -133,7 +135,8 @@ fn before_a_match(s: &[u8], start: usize, end: usize, tries: u64) -> Part
 /// A place, or nil.
 fn place_or_nil(place: Option<usize>) -> Result<Value, NoMemory>
     ensures of { IfOk result (λ v. (s : StoreView) → IsOf s v) }
-    ensures value { IfOk result (λ v. (texts : Items (Items ℕ)) → seen texts v ≡ meaning.place_or_nil place) }
+    ensures value { IfOk result (λ v.
+        (texts : Items (Items ℕ)) → seen texts v ≡ meaning.place_or_nil place) }
 {
     match place {
         Some(at) => number(at),
@@ -152,7 +155,8 @@ fn give_part(
     part: Part,
 ) -> Result<List<Value>, Stop>
     requires { AreOf store.old cells }
-    ensures answer { Paid (meaning.part_given s.now (cells_seen cells) at part store.old.heap) store.old left.old store.new left.new result }
+    ensures answer { Paid (meaning.part_given s.now (cells_seen cells) at part store.old.heap)
+        store.old left.old store.new left.new result }
     ensures of { AnswerOf store.new result }
     ensures later { IsLater store.old store.new }
 {
@@ -178,7 +182,10 @@ fn part_at(
 ) -> Result<List<Value>, Stop>
     requires cells { AreOf store.old cells }
     requires place { at ≤ length s.now }
-    ensures answer { Paid (meaning.part_given s.now (cells_seen cells) at (part_from (sought_of separator.now) s.now at) store.old.heap) store.old left.old store.new left.new result }
+    ensures answer { Paid
+        (meaning.part_given s.now (cells_seen cells) at
+        (part_from (sought_of separator.now) s.now at) store.old.heap)
+        store.old left.old store.new left.new result }
     ensures of { AnswerOf store.new result }
     ensures later { IsLater store.old store.new }
 {
@@ -210,7 +217,11 @@ fn part_from_place(
     separator: &Separator,
 ) -> Result<List<Value>, Stop>
     requires { AreOf store.old cells }
-    ensures answer { Paid (meaning.parted s.now (cells_seen cells) (meaning.held_place (length s.now) (cell_at store.old.heap cells.place.at)) (sought_of separator.now) store.old.heap) store.old left.old store.new left.new result }
+    ensures answer { Paid
+        (meaning.parted s.now (cells_seen cells)
+        (meaning.held_place (length s.now) (cell_at store.old.heap cells.place.at))
+        (sought_of separator.now) store.old.heap)
+        store.old left.old store.new left.new result }
     ensures of { AnswerOf store.new result }
     ensures later { IsLater store.old store.new }
 {
@@ -231,7 +242,11 @@ fn part_by(
     plain: bool,
 ) -> Result<List<Value>, Stop>
     requires { AreOf store.old cells }
-    ensures answer { Paid (meaning.parted_by s.now (cells_seen cells) (meaning.held_place (length s.now) (cell_at store.old.heap cells.place.at)) (sought_by plain pattern.now) store.old.heap) store.old left.old store.new left.new result }
+    ensures answer { Paid
+        (meaning.parted_by s.now (cells_seen cells)
+        (meaning.held_place (length s.now) (cell_at store.old.heap cells.place.at))
+        (sought_by plain pattern.now) store.old.heap)
+        store.old left.old store.new left.new result }
     ensures of { AnswerOf store.new result }
     ensures later { IsLater store.old store.new }
 {
@@ -259,7 +274,8 @@ pub fn part_step(
     cells: IteratorCells,
 ) -> Result<List<Value>, Stop>
     requires { AreOf store.old cells }
-    ensures answer { Paid (meaning.part_step (cells_seen cells) store.old.heap) store.old left.old store.new left.new result }
+    ensures answer { Paid (meaning.part_step (cells_seen cells) store.old.heap) store.old left.old
+        store.new left.new result }
     ensures of { AnswerOf store.new result }
     ensures later { IsLater store.old store.new }
 {

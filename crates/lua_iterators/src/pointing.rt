@@ -34,7 +34,10 @@ fn give_point(
     next: usize,
 ) -> Result<List<Value>, Stop>
     requires { AreOf store.old cells }
-    ensures answer { Free (costs 0 (set_cell_in store.old.heap cells.place.at (kind.Number (pos next))) (kind.Number (pos point) ∷ [])) store.new result }
+    ensures answer { Free
+        (costs 0 (set_cell_in store.old.heap cells.place.at (kind.Number (pos next)))
+        (kind.Number (pos point) ∷ []))
+        store.new result }
     ensures of { AnswerOf store.new result }
     ensures later { IsLater store.old store.new }
 {
@@ -54,7 +57,9 @@ fn point_at(
     at: usize,
 ) -> Result<List<Value>, Stop>
     requires { AreOf store.old cells }
-    ensures answer { Paid (meaning.point_given (cells_seen cells) at (points.symbols (drop at s.now)) store.old.heap) store.old left.old store.new left.new result }
+    ensures answer { Paid
+        (meaning.point_given (cells_seen cells) at (points.symbols (drop at s.now)) store.old.heap)
+        store.old left.old store.new left.new result }
     ensures of { AnswerOf store.new result }
     ensures later { IsLater store.old store.new }
 {
@@ -72,7 +77,8 @@ pub fn point_step(
     cells: IteratorCells,
 ) -> Result<List<Value>, Stop>
     requires { AreOf store.old cells }
-    ensures answer { Paid (meaning.point_step (cells_seen cells) store.old.heap) store.old left.old store.new left.new result }
+    ensures answer { Paid (meaning.point_step (cells_seen cells) store.old.heap) store.old left.old
+        store.new left.new result }
     ensures of { AnswerOf store.new result }
     ensures later { IsLater store.old store.new }
 {

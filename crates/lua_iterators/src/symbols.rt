@@ -33,7 +33,8 @@ pub fn symbols_before<A: Alphabet>(
     before: usize,
     place: usize,
 ) -> Result<usize, NoMemory>
-    ensures { IfOk result (λ n. n ≡ meaning.symbols_before A.letters s.now (record { at = at; before = before }) place) }
+    ensures { IfOk result (λ n.
+        n ≡ meaning.symbols_before A.letters s.now (record { at = at; before = before }) place) }
 {
     match before.checked_add(count_symbols::<A>(span(s, at, place))) {
         Some(count) => Ok(count),
@@ -49,7 +50,13 @@ pub fn count_value<A: Alphabet>(
     place: usize,
 ) -> Result<Value, NoMemory>
     ensures of { IfOk result (λ v. (t : StoreView) → IsOf t v) }
-    ensures value { IfOk result (λ v. (texts : Items (Items ℕ)) → seen texts v ≡ kind.Number (pos (meaning.symbols_before A.letters s.now (record { at = at; before = before }) place))) }
+    ensures value { IfOk result (λ v.
+        (texts : Items (Items ℕ))
+        → seen texts v
+        ≡ kind.Number
+        (pos
+        (meaning.symbols_before A.letters s.now
+        (record { at = at; before = before }) place))) }
 {
     let count = symbols_before::<A>(s, at, before, place)?;
     number(count)
@@ -63,7 +70,14 @@ pub fn place_value<A: Alphabet>(
     place: usize,
 ) -> Result<Value, NoMemory>
     ensures of { IfOk result (λ v. (t : StoreView) → IsOf t v) }
-    ensures value { IfOk result (λ v. (texts : Items (Items ℕ)) → seen texts v ≡ kind.Number (pos (suc (meaning.symbols_before A.letters s.now (record { at = at; before = before }) place)))) }
+    ensures value { IfOk result (λ v.
+        (texts : Items (Items ℕ))
+        → seen texts v
+        ≡ kind.Number
+        (pos
+        (suc
+        (meaning.symbols_before A.letters s.now
+        (record { at = at; before = before }) place)))) }
 {
     let count = symbols_before::<A>(s, at, before, place)?;
     match count.checked_add(1) {

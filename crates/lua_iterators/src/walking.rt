@@ -33,7 +33,9 @@ fn go_on<A: Alphabet>(
     next: Option<usize>,
 ) -> Result<(), NoMemory>
     requires { AreOf store.old cells }
-    ensures heap { OnOk result (store.new.heap ≡ meaning.goes_on A.letters s.now (record { at = at; before = before }) (cells_seen cells) next store.old.heap) }
+    ensures heap { OnOk result (store.new.heap
+        ≡ meaning.goes_on A.letters s.now (record { at = at; before = before }) (cells_seen cells)
+        next store.old.heap) }
     ensures texts { store.new.texts ≡ store.old.texts }
     ensures later { IsLater store.old store.new }
 {
@@ -61,7 +63,9 @@ fn end_walk(
     tries: u64,
 ) -> Result<List<Value>, Stop>
     requires { AreOf store.old cells }
-    ensures answer { Paid (costs tries (set_cell_in store.old.heap cells.place.at kind.Nil) (kind.Nil ∷ [])) store.old left.old store.new left.new result }
+    ensures answer { Paid
+        (costs tries (set_cell_in store.old.heap cells.place.at kind.Nil) (kind.Nil ∷ [])) store.old
+        left.old store.new left.new result }
     ensures of { AnswerOf store.new result }
     ensures later { IsLater store.old store.new }
 {
@@ -85,7 +89,12 @@ fn give_match<A: Alphabet>(
     tries: u64,
 ) -> Result<List<Value>, Stop>
     requires { AreOf store.old cells }
-    ensures answer { Paid (costs (tries + match_bytes found.now) (meaning.goes_on A.letters s.now (record { at = at; before = before }) (cells_seen cells) next store.old.heap) (meaning.match_given A.letters s.now (record { at = at; before = before }) found.now)) store.old left.old store.new left.new result }
+    ensures answer { Paid
+        (costs (tries + match_bytes found.now)
+        (meaning.goes_on A.letters s.now (record { at = at; before = before })
+        (cells_seen cells) next store.old.heap)
+        (meaning.match_given A.letters s.now (record { at = at; before = before }) found.now))
+        store.old left.old store.new left.new result }
     ensures of { AnswerOf store.new result }
     ensures later { IsLater store.old store.new }
 {
@@ -109,7 +118,11 @@ fn walk_at<A: Alphabet>(
 ) -> Result<List<Value>, Stop>
     requires cells { AreOf store.old cells }
     requires place { at ≤ length s.now }
-    ensures answer { Paid (meaning.walked A.letters s.now (record { at = at; before = before }) (cells_seen cells) pattern.now.slots (walk A.letters pattern.now.anchored pattern.now.items s.now at) store.old.heap) store.old left.old store.new left.new result }
+    ensures answer { Paid
+        (meaning.walked A.letters s.now (record { at = at; before = before }) (cells_seen cells)
+        pattern.now.slots (walk A.letters pattern.now.anchored pattern.now.items s.now at)
+        store.old.heap)
+        store.old left.old store.new left.new result }
     ensures of { AnswerOf store.new result }
     ensures later { IsLater store.old store.new }
 {
@@ -136,7 +149,11 @@ fn walk_from<A: Alphabet>(
     pattern: &Pattern<A>,
 ) -> Result<List<Value>, Stop>
     requires { AreOf store.old cells }
-    ensures answer { Paid (meaning.walks A.letters s.now (cells_seen cells) (meaning.held_place (length s.now) (cell_at store.old.heap cells.place.at)) pattern.now.anchored pattern.now.items pattern.now.slots store.old.heap) store.old left.old store.new left.new result }
+    ensures answer { Paid
+        (meaning.walks A.letters s.now (cells_seen cells)
+        (meaning.held_place (length s.now) (cell_at store.old.heap cells.place.at))
+        pattern.now.anchored pattern.now.items pattern.now.slots store.old.heap)
+        store.old left.old store.new left.new result }
     ensures of { AnswerOf store.new result }
     ensures later { IsLater store.old store.new }
 {
@@ -159,7 +176,11 @@ fn walk_by<A: Alphabet>(
     pattern: &[u8],
 ) -> Result<List<Value>, Stop>
     requires { AreOf store.old cells }
-    ensures answer { Paid (meaning.walks_by A.letters s.now (cells_seen cells) (meaning.held_place (length s.now) (cell_at store.old.heap cells.place.at)) (read_unanchored (codes A.letters pattern.now)) store.old.heap) store.old left.old store.new left.new result }
+    ensures answer { Paid
+        (meaning.walks_by A.letters s.now (cells_seen cells)
+        (meaning.held_place (length s.now) (cell_at store.old.heap cells.place.at))
+        (read_unanchored (codes A.letters pattern.now)) store.old.heap)
+        store.old left.old store.new left.new result }
     ensures of { AnswerOf store.new result }
     ensures later { IsLater store.old store.new }
 {
@@ -177,7 +198,8 @@ pub fn match_step<A: Alphabet>(
     cells: IteratorCells,
 ) -> Result<List<Value>, Stop>
     requires { AreOf store.old cells }
-    ensures answer { Paid (meaning.match_step A.letters (cells_seen cells) store.old.heap) store.old left.old store.new left.new result }
+    ensures answer { Paid (meaning.match_step A.letters (cells_seen cells) store.old.heap) store.old
+        left.old store.new left.new result }
     ensures of { AnswerOf store.new result }
     ensures later { IsLater store.old store.new }
 {

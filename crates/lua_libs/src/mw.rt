@@ -21,7 +21,8 @@ use wk_base::{List, NoMemory};
 /// `mw.log(...)` does nothing.
 pub fn log(alloc: Global, store: &mut Store, args: &[Value]) -> Result<List<Value>, Stop>
     requires { AllOf store.old args.now }
-    ensures answer { Free (meaning.log (values_seen store.old.texts args.now) store.old.heap) store.new result }
+    ensures answer { Free (meaning.log (values_seen store.old.texts args.now) store.old.heap)
+        store.new result }
     ensures of { AnswerOf store.new result }
     ensures later { IsLater store.old store.new }
 {
@@ -35,7 +36,9 @@ pub fn argument_expand(
     args: &[Value],
 ) -> Result<List<Value>, Stop>
     requires { AllOf store.old args.now }
-    ensures answer { Free (frames.argument_expand (values_seen store.old.texts args.now) store.old.heap) store.new result }
+    ensures answer { Free
+        (frames.argument_expand (values_seen store.old.texts args.now) store.old.heap)
+        store.new result }
     ensures of { AnswerOf store.new result }
     ensures later { IsLater store.old store.new }
 {
@@ -86,7 +89,8 @@ fn between(alloc: Global, before: &[u8], text: &[u8], after: &[u8]) -> Result<Ve
 /// The message of the handlers of `strict` that there is no global variable of this name (Scribunto, strict).
 pub fn undeclared_variable(alloc: Global, store: &Store, name: Value) -> Result<Vec<u8>, NoMemory>
     requires { IsOf store.now name }
-    ensures { IfOk result (λ made. made.items ≡ messages.undeclared_variable (texts.text_of (seen store.now.texts name))) }
+    ensures { IfOk result (λ made.
+        made.items ≡ messages.undeclared_variable (texts.text_of (seen store.now.texts name))) }
 {
     let name = text_of(alloc, store, name)?;
     let message = between(alloc, b"variable '", name.as_slice(), b"' is not declared")?;
@@ -96,7 +100,8 @@ pub fn undeclared_variable(alloc: Global, store: &Store, name: Value) -> Result<
 /// So it is where a value is assigned to one.
 pub fn undeclared_target(alloc: Global, store: &Store, name: Value) -> Result<Vec<u8>, NoMemory>
     requires { IsOf store.now name }
-    ensures { IfOk result (λ made. made.items ≡ messages.undeclared_target (texts.text_of (seen store.now.texts name))) }
+    ensures { IfOk result (λ made.
+        made.items ≡ messages.undeclared_target (texts.text_of (seen store.now.texts name))) }
 {
     let name = text_of(alloc, store, name)?;
     let message = between(

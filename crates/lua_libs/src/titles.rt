@@ -8,16 +8,21 @@ ghost use Rattle.lua_graph.specs.LuaStoreParts.{IsTableOf, IsLater};
 ghost use Rattle.lua_basic.specs.Seen.{Paid, AnswerOf};
 
 use lua_basic::Stop;
+use lua_basic::charges::{ENTRY_CHARGE, TABLE_CHARGE};
 use lua_basic::stop::pay;
 use lua_basic::values::single;
 use lua_graph::{Store, TableId, Value};
 use std::alloc::Global;
 use wk_base::{Left, List, NoMemory, Title};
 
+/// A table with three entries.
+const TITLE_CHARGE: u64 = TABLE_CHARGE + 3 * ENTRY_CHARGE;
+
 /// Sets a field of a table to a text.
 fn set_text(store: &mut Store, table: TableId, name: &[u8], text: &[u8]) -> Result<(), NoMemory>
     requires { IsTableOf store.old table }
-    ensures put { OnOk result (store.new.heap ≡ set_in store.old.heap table.at (kind.Text name.now) (kind.Text text.now)) }
+    ensures put { OnOk result (store.new.heap
+        ≡ set_in store.old.heap table.at (kind.Text name.now) (kind.Text text.now)) }
     ensures later { IsLater store.old store.new }
 {
     let text = store.text(text)?;
@@ -32,7 +37,8 @@ fn set_text(store: &mut Store, table: TableId, name: &[u8], text: &[u8]) -> Resu
 fn title_table(store: &mut Store, page: &Title) -> Result<TableId, NoMemory>
     ensures of { IfOk result (IsTableOf store.new) }
     ensures id { IfOk result (λ table. table.at ≡ length store.old.heap.tables) }
-    ensures made { OnOk result (store.new.heap ≡ with_table store.old.heap (meaning.title_entries page.now) kind.Nil) }
+    ensures made { OnOk result (store.new.heap
+        ≡ with_table store.old.heap (meaning.title_entries page.now) kind.Nil) }
     ensures later { IsLater store.old store.new }
 {
     let table = store.new_table()?;
@@ -43,7 +49,7 @@ fn title_table(store: &mut Store, page: &Title) -> Result<TableId, NoMemory>
     Ok(table)
 }
 
-/// `mw.title.getCurrentTitle()`: a new table with the texts of the title of the page that is expanded. It costs 20 steps.
+/// `mw.title.getCurrentTitle()`: a new table with the texts of the title of the page that is expanded. It costs a table with three entries.
 ///
 /// It is `Stop::Spent` exactly where these are not covered, and then the store is as it was. It never raises.
 pub fn mw_get_current_title(
@@ -52,11 +58,12 @@ pub fn mw_get_current_title(
     left: &mut Left,
     page: &Title,
 ) -> Result<List<Value>, Stop>
-    ensures answer { Paid (meaning.get_current_title page.now store.old.heap) store.old left.old store.new left.new result }
+    ensures answer { Paid (meaning.get_current_title page.now store.old.heap) store.old left.old
+        store.new left.new result }
     ensures of { AnswerOf store.new result }
     ensures later { IsLater store.old store.new }
 {
-    pay(left, 20)?;
+    pay(left, TITLE_CHARGE)?;
     let table = title_table(store, page)?;
     let values = single(alloc, Value::Table(table))?;
     Ok(values)

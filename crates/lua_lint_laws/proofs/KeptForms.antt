@@ -7,7 +7,7 @@ use Rattle.lua_meaning.specs.LuaHeapTable.{Entries}
 use Rattle.lua_walk.specs.LuaHeapValue.{Value}
 use Rattle.lua_walk.specs.LuaHeapHeap.{Heap}
 use Rattle.lua_meaning.specs.LuaHeapDeclaredLibraryLibrary.{Library}
-use Rattle.lua_meaning.specs.LuaHeapDeclaredLibraryLibraryTheVariants.{BasicAssert, BasicError, BasicGetMetatable, BasicSetMetatable, BasicIpairs, BasicPairs, BasicNext, BasicPcall, BasicXpcall, BasicRawEqual, BasicRawGet, BasicRawSet, BasicSelect, BasicToNumber, BasicToString, BasicType, BasicUnpack, BasicRequire, StringByte, StringChar, StringFind, StringMatch, StringGmatch, StringGsub, StringFormat, StringLen, StringLower, StringUpper, StringRep, StringReverse, StringSub, TableConcat, TableInsert, TableMaxn, TableRemove, TableSort, MathAbs, MathCeil, MathFloor, MathFmod, MathMax, MathMin, MathPow, MwClone, MwLog, MwGetCurrentTitle, MwLoadData, MwGetCurrentFrame, UstringChar, UstringCodepoint, UstringGcodepoint, UstringByteOffset, UstringFind, UstringMatch, UstringGmatch, UstringGsub, UstringLen, UstringSub, UstringIsUtf8, UstringToNfc, UstringToNfd, UstringToNfkc, UstringToNfkd, TextTrim, TextSplit, TextGsplit, TextEncode, TextDecode, TextListToText, TextNowiki, TextTag, TextTruncate, HtmlCreate, HtmlNode, HtmlWikitext, HtmlNewline, HtmlAttr, HtmlAddClass, HtmlCss, HtmlCssText, HtmlTag, HtmlDone, HtmlAllDone, HtmlGetAttr, FrameGetParent, FrameExpandTemplate, FramePreprocess, FrameGetArgument, FrameArgumentPairs, FrameNewChild, FrameGetTitle, FrameExtensionTag, ArgsIndex, ArgumentExpand, StrictIndex, StrictNewIndex, IpairsStep, GmatchStep, UstringGmatchStep, GcodepointStep, GsplitStep}
+use Rattle.lua_meaning.specs.LuaHeapDeclaredLibraryLibraryTheVariants as library
 use Rattle.lua_meaning.specs.Scope.{Bytes, Function}
 use Rattle.lua_meaning.specs.World.{World}
 use Rattle.lua_meaning.specs.Values.{first}
@@ -80,104 +80,104 @@ module _ {P : Allowed} (h : Heap Function) (ok : IsSoundHeap P h) where
 
   -- EACH LINE
   pub form_kept : (world : World) (which : Library) (args : List Value) (fs : List Frame) → KeepsForm P (form world which args h fs)
-  form_kept world BasicAssert args fs = search kept depth 20 fits 20000
-  form_kept world BasicError args fs = search kept depth 20 fits 20000
-  form_kept world BasicGetMetatable args fs = same h ok
-  form_kept world BasicSetMetatable args fs = search kept depth 20 fits 20000
-  form_kept world BasicIpairs args fs = tt
-  form_kept world BasicPairs args fs = tt
-  form_kept world BasicNext args fs = search kept depth 20 fits 20000
-  form_kept world BasicPcall args fs = tt
-  form_kept world BasicXpcall args fs = tt
-  form_kept world BasicRawEqual args fs = same h ok
-  form_kept world BasicRawGet args fs = search kept depth 20 fits 20000
-  form_kept world BasicRawSet args fs = search kept depth 20 fits 20000
-  form_kept world BasicSelect args fs = search kept depth 20 fits 20000
-  form_kept world BasicToNumber args fs = search kept depth 20 fits 20000
-  form_kept world BasicToString args fs = tt
-  form_kept world BasicType args fs = same h ok
-  form_kept world BasicUnpack args fs = search kept depth 20 fits 20000
-  form_kept world BasicRequire args fs = tt
-  form_kept world StringByte args fs = search kept depth 20 fits 20000
-  form_kept world StringChar args fs = search kept depth 20 fits 20000
-  form_kept world StringFind args fs = search kept depth 20 fits 20000
-  form_kept world StringMatch args fs = search kept depth 20 fits 20000
-  form_kept world StringGmatch args fs = search kept depth 20 fits 20000
-  form_kept world StringGsub args fs = tt
-  form_kept world StringFormat args fs = search kept depth 20 fits 20000
-  form_kept world StringLen args fs = search kept depth 20 fits 20000
-  form_kept world StringLower args fs = search kept depth 20 fits 20000
-  form_kept world StringUpper args fs = search kept depth 20 fits 20000
-  form_kept world StringRep args fs = search kept depth 20 fits 20000
-  form_kept world StringReverse args fs = search kept depth 20 fits 20000
-  form_kept world StringSub args fs = search kept depth 20 fits 20000
-  form_kept world TableConcat args fs = search kept depth 20 fits 20000
-  form_kept world TableInsert args fs = search kept depth 20 fits 20000
-  form_kept world TableMaxn args fs = search kept depth 20 fits 20000
-  form_kept world TableRemove args fs = search kept depth 20 fits 20000
-  form_kept world TableSort args fs = search kept depth 20 fits 20000
-  form_kept world MathAbs args fs = search kept depth 20 fits 20000
-  form_kept world MathCeil args fs = search kept depth 20 fits 20000
-  form_kept world MathFloor args fs = search kept depth 20 fits 20000
-  form_kept world MathFmod args fs = search kept depth 20 fits 20000
-  form_kept world MathMax args fs = search kept depth 20 fits 20000
-  form_kept world MathMin args fs = search kept depth 20 fits 20000
-  form_kept world MathPow args fs = search kept depth 20 fits 20000
-  form_kept world MwClone args fs = record { sound = clone_of h ok (first args) }
-  form_kept world MwLog args fs = same h ok
-  form_kept world MwGetCurrentTitle args fs = record { sound = ok }
-  form_kept world MwLoadData args fs = tt
-  form_kept world MwGetCurrentFrame args fs = record { sound = ok }
-  form_kept world UstringChar args fs = search kept depth 20 fits 20000
-  form_kept world UstringCodepoint args fs = search kept depth 20 fits 20000
-  form_kept world UstringGcodepoint args fs = search kept depth 20 fits 20000
-  form_kept world UstringByteOffset args fs = search kept depth 20 fits 20000
-  form_kept world UstringFind args fs = search kept depth 20 fits 20000
-  form_kept world UstringMatch args fs = search kept depth 20 fits 20000
-  form_kept world UstringGmatch args fs = search kept depth 20 fits 20000
-  form_kept world UstringGsub args fs = tt
-  form_kept world UstringLen args fs = search kept depth 20 fits 20000
-  form_kept world UstringSub args fs = search kept depth 20 fits 20000
-  form_kept world UstringIsUtf8 args fs = search kept depth 20 fits 20000
-  form_kept world UstringToNfc args fs = search kept depth 20 fits 20000
-  form_kept world UstringToNfd args fs = search kept depth 20 fits 20000
-  form_kept world UstringToNfkc args fs = search kept depth 20 fits 20000
-  form_kept world UstringToNfkd args fs = search kept depth 20 fits 20000
-  form_kept world TextTrim args fs = search kept depth 20 fits 20000
-  form_kept world TextSplit args fs = search kept depth 20 fits 20000
-  form_kept world TextGsplit args fs = search kept depth 20 fits 20000
-  form_kept world TextEncode args fs = search kept depth 20 fits 20000
-  form_kept world TextDecode args fs = search kept depth 20 fits 20000
-  form_kept world TextListToText args fs = search kept depth 20 fits 20000
-  form_kept world TextNowiki args fs = search kept depth 20 fits 20000
-  form_kept world TextTag args fs = search kept depth 20 fits 20000
-  form_kept world TextTruncate args fs = search kept depth 20 fits 20000
-  form_kept world HtmlCreate args fs = search kept depth 20 fits 20000
-  form_kept world HtmlNode args fs = search kept depth 20 fits 20000
-  form_kept world HtmlWikitext args fs = search kept depth 20 fits 20000
-  form_kept world HtmlNewline args fs = search kept depth 20 fits 20000
-  form_kept world HtmlAttr args fs = search kept depth 20 fits 20000
-  form_kept world HtmlAddClass args fs = search kept depth 20 fits 20000
-  form_kept world HtmlCss args fs = search kept depth 20 fits 20000
-  form_kept world HtmlCssText args fs = search kept depth 20 fits 20000
-  form_kept world HtmlTag args fs = search kept depth 20 fits 20000
-  form_kept world HtmlDone args fs = search kept depth 20 fits 20000
-  form_kept world HtmlAllDone args fs = search kept depth 20 fits 20000
-  form_kept world HtmlGetAttr args fs = search kept depth 20 fits 20000
-  form_kept world FrameGetParent args fs = in_frame fs _ args (λ self. parent_of fs self self.frame.parent)
-  form_kept world FrameExpandTemplate args fs = expand_template fs args
-  form_kept world FramePreprocess args fs = preprocess fs args
-  form_kept world FrameGetArgument args fs = get_argument fs args
-  form_kept world FrameArgumentPairs args fs = in_frame fs _ args (λ self. record { sound = ok })
-  form_kept world FrameNewChild args fs = new_child fs args
-  form_kept world FrameGetTitle args fs = in_frame fs _ args (λ self. record { sound = ok })
-  form_kept world FrameExtensionTag args fs = frame_extension_tag fs args
-  form_kept world ArgsIndex args fs = search kept depth 20 fits 20000
-  form_kept world ArgumentExpand args fs = search kept depth 20 fits 20000
-  form_kept world StrictIndex args fs = tt
-  form_kept world StrictNewIndex args fs = tt
-  form_kept world IpairsStep args fs = tt
-  form_kept world GmatchStep args fs = on_cells h ok (iterators.match_step bytes) (λ c. match_step h ok bytes c) _
-  form_kept world UstringGmatchStep args fs = charged _ (on_cells h ok (iterators.match_step points) (λ c. match_step h ok points c) _)
-  form_kept world GcodepointStep args fs = charged _ (on_cells h ok iterators.point_step (λ c. point_step h ok c) _)
-  form_kept world GsplitStep args fs = charged _ (on_cells h ok iterators.part_step (λ c. part_step h ok c) _)
+  form_kept world library.BasicAssert args fs = search kept depth 20 fits 20000
+  form_kept world library.BasicError args fs = search kept depth 20 fits 20000
+  form_kept world library.BasicGetMetatable args fs = same h ok
+  form_kept world library.BasicSetMetatable args fs = search kept depth 20 fits 20000
+  form_kept world library.BasicIpairs args fs = tt
+  form_kept world library.BasicPairs args fs = tt
+  form_kept world library.BasicNext args fs = search kept depth 20 fits 20000
+  form_kept world library.BasicPcall args fs = tt
+  form_kept world library.BasicXpcall args fs = tt
+  form_kept world library.BasicRawEqual args fs = same h ok
+  form_kept world library.BasicRawGet args fs = search kept depth 20 fits 20000
+  form_kept world library.BasicRawSet args fs = search kept depth 20 fits 20000
+  form_kept world library.BasicSelect args fs = search kept depth 20 fits 20000
+  form_kept world library.BasicToNumber args fs = search kept depth 20 fits 20000
+  form_kept world library.BasicToString args fs = tt
+  form_kept world library.BasicType args fs = same h ok
+  form_kept world library.BasicUnpack args fs = search kept depth 20 fits 20000
+  form_kept world library.BasicRequire args fs = tt
+  form_kept world library.StringByte args fs = search kept depth 20 fits 20000
+  form_kept world library.StringChar args fs = search kept depth 20 fits 20000
+  form_kept world library.StringFind args fs = search kept depth 20 fits 20000
+  form_kept world library.StringMatch args fs = search kept depth 20 fits 20000
+  form_kept world library.StringGmatch args fs = search kept depth 20 fits 20000
+  form_kept world library.StringGsub args fs = tt
+  form_kept world library.StringFormat args fs = search kept depth 20 fits 20000
+  form_kept world library.StringLen args fs = search kept depth 20 fits 20000
+  form_kept world library.StringLower args fs = search kept depth 20 fits 20000
+  form_kept world library.StringUpper args fs = search kept depth 20 fits 20000
+  form_kept world library.StringRep args fs = search kept depth 20 fits 20000
+  form_kept world library.StringReverse args fs = search kept depth 20 fits 20000
+  form_kept world library.StringSub args fs = search kept depth 20 fits 20000
+  form_kept world library.TableConcat args fs = search kept depth 20 fits 20000
+  form_kept world library.TableInsert args fs = search kept depth 20 fits 20000
+  form_kept world library.TableMaxn args fs = search kept depth 20 fits 20000
+  form_kept world library.TableRemove args fs = search kept depth 20 fits 20000
+  form_kept world library.TableSort args fs = search kept depth 20 fits 20000
+  form_kept world library.MathAbs args fs = search kept depth 20 fits 20000
+  form_kept world library.MathCeil args fs = search kept depth 20 fits 20000
+  form_kept world library.MathFloor args fs = search kept depth 20 fits 20000
+  form_kept world library.MathFmod args fs = search kept depth 20 fits 20000
+  form_kept world library.MathMax args fs = search kept depth 20 fits 20000
+  form_kept world library.MathMin args fs = search kept depth 20 fits 20000
+  form_kept world library.MathPow args fs = search kept depth 20 fits 20000
+  form_kept world library.MwClone args fs = record { sound = clone_of h ok (first args) }
+  form_kept world library.MwLog args fs = same h ok
+  form_kept world library.MwGetCurrentTitle args fs = record { sound = ok }
+  form_kept world library.MwLoadData args fs = tt
+  form_kept world library.MwGetCurrentFrame args fs = record { sound = ok }
+  form_kept world library.UstringChar args fs = search kept depth 20 fits 20000
+  form_kept world library.UstringCodepoint args fs = search kept depth 20 fits 20000
+  form_kept world library.UstringGcodepoint args fs = search kept depth 20 fits 20000
+  form_kept world library.UstringByteOffset args fs = search kept depth 20 fits 20000
+  form_kept world library.UstringFind args fs = search kept depth 20 fits 20000
+  form_kept world library.UstringMatch args fs = search kept depth 20 fits 20000
+  form_kept world library.UstringGmatch args fs = search kept depth 20 fits 20000
+  form_kept world library.UstringGsub args fs = tt
+  form_kept world library.UstringLen args fs = search kept depth 20 fits 20000
+  form_kept world library.UstringSub args fs = search kept depth 20 fits 20000
+  form_kept world library.UstringIsUtf8 args fs = search kept depth 20 fits 20000
+  form_kept world library.UstringToNfc args fs = search kept depth 20 fits 20000
+  form_kept world library.UstringToNfd args fs = search kept depth 20 fits 20000
+  form_kept world library.UstringToNfkc args fs = search kept depth 20 fits 20000
+  form_kept world library.UstringToNfkd args fs = search kept depth 20 fits 20000
+  form_kept world library.TextTrim args fs = search kept depth 20 fits 20000
+  form_kept world library.TextSplit args fs = search kept depth 20 fits 20000
+  form_kept world library.TextGsplit args fs = search kept depth 20 fits 20000
+  form_kept world library.TextEncode args fs = search kept depth 20 fits 20000
+  form_kept world library.TextDecode args fs = search kept depth 20 fits 20000
+  form_kept world library.TextListToText args fs = search kept depth 20 fits 20000
+  form_kept world library.TextNowiki args fs = search kept depth 20 fits 20000
+  form_kept world library.TextTag args fs = search kept depth 20 fits 20000
+  form_kept world library.TextTruncate args fs = search kept depth 20 fits 20000
+  form_kept world library.HtmlCreate args fs = search kept depth 20 fits 20000
+  form_kept world library.HtmlNode args fs = search kept depth 20 fits 20000
+  form_kept world library.HtmlWikitext args fs = search kept depth 20 fits 20000
+  form_kept world library.HtmlNewline args fs = search kept depth 20 fits 20000
+  form_kept world library.HtmlAttr args fs = search kept depth 20 fits 20000
+  form_kept world library.HtmlAddClass args fs = search kept depth 20 fits 20000
+  form_kept world library.HtmlCss args fs = search kept depth 20 fits 20000
+  form_kept world library.HtmlCssText args fs = search kept depth 20 fits 20000
+  form_kept world library.HtmlTag args fs = search kept depth 20 fits 20000
+  form_kept world library.HtmlDone args fs = search kept depth 20 fits 20000
+  form_kept world library.HtmlAllDone args fs = search kept depth 20 fits 20000
+  form_kept world library.HtmlGetAttr args fs = search kept depth 20 fits 20000
+  form_kept world library.FrameGetParent args fs = in_frame fs _ args (λ self. parent_of fs self self.frame.parent)
+  form_kept world library.FrameExpandTemplate args fs = expand_template fs args
+  form_kept world library.FramePreprocess args fs = preprocess fs args
+  form_kept world library.FrameGetArgument args fs = get_argument fs args
+  form_kept world library.FrameArgumentPairs args fs = in_frame fs _ args (λ self. record { sound = ok })
+  form_kept world library.FrameNewChild args fs = new_child fs args
+  form_kept world library.FrameGetTitle args fs = in_frame fs _ args (λ self. record { sound = ok })
+  form_kept world library.FrameExtensionTag args fs = frame_extension_tag fs args
+  form_kept world library.ArgsIndex args fs = search kept depth 20 fits 20000
+  form_kept world library.ArgumentExpand args fs = search kept depth 20 fits 20000
+  form_kept world library.StrictIndex args fs = tt
+  form_kept world library.StrictNewIndex args fs = tt
+  form_kept world library.IpairsStep args fs = tt
+  form_kept world library.GmatchStep args fs = on_cells h ok (iterators.match_step bytes) (λ c. match_step h ok bytes c) _
+  form_kept world library.UstringGmatchStep args fs = charged _ (on_cells h ok (iterators.match_step points) (λ c. match_step h ok points c) _)
+  form_kept world library.GcodepointStep args fs = charged _ (on_cells h ok iterators.point_step (λ c. point_step h ok c) _)
+  form_kept world library.GsplitStep args fs = charged _ (on_cells h ok iterators.part_step (λ c. part_step h ok c) _)

@@ -17,9 +17,13 @@ ghost use Rattle.lua_state.specs.LuaMeaningCharges.{filled_table_charge};
 
 use lua_code::NoMemory;
 use lua_state::{
-    Field, Focus, Given, Item, Left, Library, State, Store, TableId, Turn, Value, fill, pay,
+    ENTRY_CHARGE, Field, Focus, Given, Item, Left, Library, State, Store, TABLE_CHARGE, TableId,
+    Turn, Value, fill, pay,
 };
 use page_run::Which;
+
+/// A table with two entries.
+const STRICT_CHARGE: u64 = TABLE_CHARGE + 2 * ENTRY_CHARGE;
 
 /// The metatable whose handlers refuse what is absent.
 fn fill_meta(store: &mut Store, table: TableId) -> Result<(), NoMemory>
@@ -76,7 +80,7 @@ pub fn require_strict<'m>(
     ensures { IfOk result (λ r. Makes store.old state.now left.old store.new state.now left.new
         (Costs (filled_table_charge 2) (gives (kind.Truth true ∷ []) (frames_of store.old state.now) (with_strict (slots_of store.old state.now)))) r) }
 {
-    if !pay(left, 16) {
+    if !pay(left, STRICT_CHARGE) {
         return Ok(Turn::Spent(Which::Steps));
     }
     let turn = give_guarded(store, state)?;

@@ -60,7 +60,8 @@ fn assignment(
     requires inside { i < length toks.now }
     requires begins { Opening (class_at toks.now i) }
     requires room { context.above ≤ 200 }
-    requires read { ReadsPrefix toks.now (under context) i (expr_view first.tree) first.end first.height }
+    requires read { ReadsPrefix toks.now (under context) i (expr_view first.tree) first.end
+        first.height }
     requires var { IsVar (expr_view first.tree) }
     ensures { StatAnswer toks.now context i result }
 {

@@ -28,7 +28,8 @@ pub(crate) fn body(
     requires ended { HasOneEnd toks.now }
     requires inside { i < length toks.now }
     requires high { context.above ≤ 201 }
-    ensures { Answer toks.now function_view (body_lang method toks.now context) nothing context.above i result }
+    ensures { Answer toks.now function_view (body_lang method toks.now context) nothing
+        context.above i result }
 {
     let TokenClass::LeftParen = class_at(toks, i) else {
         return fault_at(5, i);

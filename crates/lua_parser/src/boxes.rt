@@ -44,7 +44,8 @@ pub(crate) fn out_of_box(alloc: Global, value: Box<Expr>) -> Result<List<Expr>, 
 /// The variable whose name is the token at i.
 pub(crate) fn variable(alloc: Global, toks: &[Token], i: usize) -> Result<Box<Expr>, Fault>
     requires { i < length toks.now }
-    ensures ok { IfOk result (λ b. expr_view b.value ≡ NameE (tok_at toks.now i).line (bytes_of (tok_at toks.now i))) }
+    ensures ok { IfOk result (λ b.
+        expr_view b.value ≡ NameE (tok_at toks.now i).line (bytes_of (tok_at toks.now i))) }
     ensures err { IfErr result (λ e. e ≡ NoMemory) }
 {
     let name = copy_at(alloc, toks, i)?;
@@ -60,7 +61,8 @@ pub(crate) fn dotted(
     name_line: u32,
     name: Bytes,
 ) -> Result<Box<Expr>, Fault>
-    ensures ok { IfOk result (λ b. expr_view b.value ≡ IndexE line (expr_view of.value) (TextE name_line name)) }
+    ensures ok { IfOk result (λ b.
+        expr_view b.value ≡ IndexE line (expr_view of.value) (TextE name_line name)) }
     ensures err { IfErr result (λ e. e ≡ NoMemory) }
 {
     let key = make::text(name_line, name);
@@ -89,7 +91,8 @@ pub(crate) fn binary(
     left: Box<Expr>,
     right: Expr,
 ) -> Result<Expr, Fault>
-    ensures ok { IfOk result (λ e. expr_view e ≡ BinaryE line op (expr_view left.value) (expr_view right)) }
+    ensures ok { IfOk result (λ e.
+        expr_view e ≡ BinaryE line op (expr_view left.value) (expr_view right)) }
     ensures err { IfErr result (λ e. e ≡ NoMemory) }
 {
     let right = Box::new(alloc, right)?;
@@ -117,7 +120,8 @@ pub(crate) fn method(line: u32, of: Box<Expr>, name: Bytes, args: List<Expr>) ->
 
 /// `for name = from, to do body end`.
 pub(crate) fn count(line: u32, name: Bytes, from: Box<Expr>, to: Box<Expr>, body: Block) -> Stat
-    ensures { stat_view result ≡ CountS line name (expr_view from.value) (expr_view to.value) (block_view body) }
+    ensures { stat_view result
+        ≡ CountS line name (expr_view from.value) (expr_view to.value) (block_view body) }
 {
     let from = Box::into_inner(from);
     let to = Box::into_inner(to);
@@ -133,7 +137,9 @@ pub(crate) fn count_by(
     by: Box<Expr>,
     body: Block,
 ) -> Stat
-    ensures { stat_view result ≡ CountByS line name (expr_view from.value) (expr_view to.value) (expr_view by.value) (block_view body) }
+    ensures { stat_view result
+        ≡ CountByS line name (expr_view from.value) (expr_view to.value) (expr_view by.value)
+        (block_view body) }
 {
     let from = Box::into_inner(from);
     let to = Box::into_inner(to);

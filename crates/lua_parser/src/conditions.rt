@@ -71,7 +71,8 @@ fn arms(
     requires ended { HasOneEnd toks.now }
     requires inside { i < length toks.now }
     requires high { context.above ≤ 201 }
-    ensures { Answer toks.now arms_view (arms_lang toks.now context) arms_goes context.above i result }
+    ensures { Answer toks.now arms_view (arms_lang toks.now context) arms_goes context.above i
+        result }
 {
     let mut tree = short_list(alloc)?;
     let mut at = i;

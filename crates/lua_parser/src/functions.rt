@@ -62,7 +62,8 @@ fn path(alloc: Global, toks: &[Token], i: usize, context: Context) -> Result<Rea
     requires ended { HasOneEnd toks.now }
     requires inside { i < length toks.now }
     requires room { context.above ≤ 200 }
-    ensures { Answer toks.now head_view (head_lang toks.now context) head_goes context.above i result }
+    ensures { Answer toks.now head_view (head_lang toks.now context) head_goes context.above i
+        result }
 {
     let TokenClass::Name = class_at(toks, i) else {
         return fault_at(5, i);

@@ -27,7 +27,8 @@ pub(crate) fn params(
 ) -> Result<Reading<ParameterList>, Fault>
     requires ended { HasOneEnd toks.now }
     requires inside { i < length toks.now }
-    ensures { (a : _) → MaybeEmpty toks.now params_view (params_lang toks.now) params_goes a i result }
+    ensures { (a : _)
+        → MaybeEmpty toks.now params_view (params_lang toks.now) params_goes a i result }
 {
     let mut names = List::new(alloc);
     if let TokenClass::RightParen = class_at(toks, i) {
@@ -51,7 +52,8 @@ pub(crate) fn params(
 
 // The parameters up to a place.
 fn ended(names: List<Bytes>, dots: bool, end: usize) -> Reading<ParameterList>
-    ensures { result ≡ record { tree = record { names = names; dots = dots }; end = end; height = 0 } }
+    ensures { result
+        ≡ record { tree = record { names = names; dots = dots }; end = end; height = 0 } }
 {
     Reading {
         tree: ParameterList { names, dots },

@@ -63,7 +63,8 @@ fn primary(
     requires ended { HasOneEnd toks.now }
     requires inside { i < length toks.now }
     requires high { context.above ≤ 201 }
-    ensures { Answer toks.now expr_view (primary_lang toks.now context) nothing context.above i result }
+    ensures { Answer toks.now expr_view (primary_lang toks.now context) nothing context.above i
+        result }
 {
     match class_at(toks, i) {
         TokenClass::Name => {
@@ -110,7 +111,8 @@ fn suffix(
     requires begun { 1 ≤ i }
     requires goes { suffix_goes (class_at toks.now i) ≡ true }
     requires high { context.above ≤ 200 }
-    ensures { Answer toks.now expr_view (suffix_lang toks.now context (expr_view left.value)) nothing context.above i result }
+    ensures { Answer toks.now expr_view (suffix_lang toks.now context (expr_view left.value))
+        nothing context.above i result }
 {
     let line = line_at(toks, i);
     match class_at(toks, i) {
@@ -165,7 +167,8 @@ pub(crate) fn key_name(
 ) -> Result<Reading<Expr>, Fault>
     requires ended { HasOneEnd toks.now }
     requires inside { i < length toks.now }
-    ensures { Answer toks.now expr_view (name_lang toks.now context) nothing context.above i result }
+    ensures { Answer toks.now expr_view (name_lang toks.now context) nothing context.above i
+        result }
 {
     let TokenClass::Name = class_at(toks, i) else {
         return fault_at(5, i);
@@ -193,7 +196,8 @@ fn arguments(
     requires inside { i < length toks.now }
     requires begun { 1 ≤ i }
     requires high { context.above ≤ 201 }
-    ensures { Answer toks.now exprs_view (args_lang toks.now context) nothing context.above i result }
+    ensures { Answer toks.now exprs_view (args_lang toks.now context) nothing context.above i
+        result }
 {
     match class_at(toks, i) {
         TokenClass::LeftParen => {
@@ -263,7 +267,8 @@ pub(crate) fn exprs(
     requires ended { HasOneEnd toks.now }
     requires inside { i < length toks.now }
     requires high { context.above ≤ 201 }
-    ensures { Answer toks.now exprs_view (all_lang toks.now context) exps_goes context.above i result }
+    ensures { Answer toks.now exprs_view (all_lang toks.now context) exps_goes context.above i
+        result }
 {
     let mut tree = short_list(alloc)?;
     let mut at = i;

@@ -54,7 +54,8 @@ fn fields(
     requires ended { HasOneEnd toks.now }
     requires inside { i < length toks.now }
     requires high { context.above ≤ 201 }
-    ensures { MaybeEmpty toks.now fields_view (fields_lang toks.now context) fields_goes context.above i result }
+    ensures { MaybeEmpty toks.now fields_view (fields_lang toks.now context) fields_goes
+        context.above i result }
 {
     let mut tree = List::new(alloc);
     let mut end = i;
@@ -79,7 +80,8 @@ fn field(alloc: Global, toks: &[Token], i: usize, context: Context) -> Result<Re
     requires ended { HasOneEnd toks.now }
     requires inside { i < length toks.now }
     requires high { context.above ≤ 201 }
-    ensures { Answer toks.now one_field (field_lang toks.now context) field_goes context.above i result }
+    ensures { Answer toks.now one_field (field_lang toks.now context) field_goes context.above i
+        result }
 {
     match class_at(toks, i) {
         TokenClass::LeftBracket => keyed(alloc, toks, i, context),
@@ -98,7 +100,8 @@ fn keyed(alloc: Global, toks: &[Token], i: usize, context: Context) -> Result<Re
     requires inside { i < length toks.now }
     requires begins { class_at toks.now i ≡ LeftBracket }
     requires high { context.above ≤ 201 }
-    ensures { Answer toks.now one_field (field_lang toks.now context) field_goes context.above i result }
+    ensures { Answer toks.now one_field (field_lang toks.now context) field_goes context.above i
+        result }
 {
     let key = exp(alloc, toks, i + 1, 1, context)?;
     let TokenClass::RightBracket = class_at(toks, key.end) else {
@@ -123,7 +126,8 @@ fn named(alloc: Global, toks: &[Token], i: usize, context: Context) -> Result<Re
     requires begins { class_at toks.now i ≡ Name }
     requires assign { class_at toks.now (i + 1) ≡ Assign }
     requires high { context.above ≤ 201 }
-    ensures { Answer toks.now one_field (field_lang toks.now context) field_goes context.above i result }
+    ensures { Answer toks.now one_field (field_lang toks.now context) field_goes context.above i
+        result }
 {
     if context.above > 200 {
         return fault_at(7, i);
@@ -146,7 +150,8 @@ fn item(alloc: Global, toks: &[Token], i: usize, context: Context) -> Result<Rea
     requires high { context.above ≤ 201 }
     requires no_bracket { class_at toks.now i ≢ LeftBracket }
     requires no_key { IsItem toks.now i }
-    ensures { Answer toks.now one_field (field_lang toks.now context) field_goes context.above i result }
+    ensures { Answer toks.now one_field (field_lang toks.now context) field_goes context.above i
+        result }
 {
     let value = exp(alloc, toks, i, 1, context)?;
     Ok(Reading {

@@ -124,7 +124,8 @@ pub fn binary(
     left: Expr,
     right: Expr,
 ) -> Result<Expr, Fault>
-    ensures ok { IfOk result (λ e. expr_view e ≡ BinaryE line op (expr_view left) (expr_view right)) }
+    ensures ok { IfOk result (λ e.
+        expr_view e ≡ BinaryE line op (expr_view left) (expr_view right)) }
     ensures err { IfErr result (λ e. e ≡ NoMemory) }
 {
     let left = Box::new(alloc, left)?;
@@ -165,7 +166,8 @@ pub fn method(
     name: Bytes,
     args: List<Expr>,
 ) -> Result<Expr, Fault>
-    ensures ok { IfOk result (λ e. expr_view e ≡ MethodE line (expr_view of) name (exprs_view args)) }
+    ensures ok { IfOk result (λ e.
+        expr_view e ≡ MethodE line (expr_view of) name (exprs_view args)) }
     ensures err { IfErr result (λ e. e ≡ NoMemory) }
 {
     let of = Box::new(alloc, of)?;
@@ -279,7 +281,8 @@ pub fn if_else(line: u32, arms: List<Arm>, other: Block) -> Stat
 /// `for name = from, to do body end`
 #[tactic(auto, using(lua_syntax::proofs::Views::views))]
 pub fn count(line: u32, name: Bytes, from: Expr, to: Expr, body: Block) -> Stat
-    ensures { stat_view result ≡ CountS line name (expr_view from) (expr_view to) (block_view body) }
+    ensures { stat_view result
+        ≡ CountS line name (expr_view from) (expr_view to) (block_view body) }
 {
     let kind = StatKind::Count(name, from, to, None, body);
     Stat { line, kind }
@@ -288,7 +291,8 @@ pub fn count(line: u32, name: Bytes, from: Expr, to: Expr, body: Block) -> Stat
 /// `for name = from, to, by do body end`
 #[tactic(auto, using(lua_syntax::proofs::Views::views))]
 pub fn count_by(line: u32, name: Bytes, from: Expr, to: Expr, by: Expr, body: Block) -> Stat
-    ensures { stat_view result ≡ CountByS line name (expr_view from) (expr_view to) (expr_view by) (block_view body) }
+    ensures { stat_view result
+        ≡ CountByS line name (expr_view from) (expr_view to) (expr_view by) (block_view body) }
 {
     let kind = StatKind::Count(name, from, to, Some(by), body);
     Stat { line, kind }

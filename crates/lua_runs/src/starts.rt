@@ -27,7 +27,7 @@ use lua_modules::{
 };
 use lua_store::{Store, TableId, Value};
 use mw_frame::{Arg, Bytes, Job, Scene, Title};
-use mw_html_texts::Left;
+use mw_html_texts::{Left, RUN_CHARGE};
 use page_run::Which;
 use std::alloc::Global;
 
@@ -135,7 +135,7 @@ fn invoke<'m>(
     requires names { HaveNames job }
     ensures { IfOk result (λ r. LateMakes store.old state.old left.old store.new state.new left.new (starts.invokes (world_seen state.old.codes.world) job [] (slots_of store.old state.old)) r) }
 {
-    if !pay(left, 1000) {
+    if !pay(left, RUN_CHARGE) {
         return Ok(Turn::Spent(Which::Steps));
     }
     let args = job.scene.args.as_slice();
@@ -218,7 +218,7 @@ fn load<'m>(
     ensures { IfOk result (λ r. Makes store.old state.old left.old store.new state.new left.new
         (point.Costs run_charge (starts.runs_data title.now ((world_seen state.old.codes.world).modules (title_text title.now)) (point.DataNow ∷ []) (slots_of store.old state.old))) r) }
 {
-    if !pay(left, 1000) {
+    if !pay(left, RUN_CHARGE) {
         return Ok(Turn::Spent(Which::Steps));
     }
     wait_for_data(alloc, store, state)?;

@@ -41,19 +41,20 @@ pub use lua_arms::setting::{set_index, set_link};
 pub use lua_arms::statements::{branches, within};
 pub use lua_arms::tables::{common_handler, handler};
 pub use lua_arms::{
-    Activations, Asked, Callee, ClosureId, ClosureKind, EachLoop, Ending, Environment, Finding,
-    Focus, Found, Frame, Given, InAssignment, InExpression, InLoop, InRun, InStatement, Jump,
-    Level, LuaStackRegisterSlot as Slot, Pending, Raising, Setting, Stack, Step, Thing, Values,
-    Work, boxed, captures, give_up, is_function, is_nil, is_true, open, open_all, raise_text, read,
-    write,
+    Activations, Asked, Callee, ClosureId, ClosureKind, ENTRY_CHARGE, EachLoop, Ending,
+    Environment, Finding, Focus, Found, Frame, Given, InAssignment, InExpression, InLoop, InRun,
+    InStatement, Jump, Level, LuaStackRegisterSlot as Slot, Pending, Raising, Setting, Stack, Step,
+    Thing, Values, Work, boxed, captures, give_up, is_function, is_nil, is_true, open, open_all,
+    raise_text, read, write,
 };
 pub use lua_titled::{ByTitle, Steps};
 pub use mw_frames::merging::merge_args;
 pub use mw_frames::paying::pay_args;
 pub use mw_frames::reading::ArgText;
 pub use mw_frames::{
-    Field, Item, Left, Library, Parent, ProtoId, SceneFrame, Scenes, Store, TableId, TextId,
-    TextIn, Value, bad_argument, expected, fill, make_frame, text_in,
+    CLOSURE_CHARGE, Field, Item, Left, Library, Parent, ProtoId, SceneFrame, Scenes, Store,
+    TABLE_CHARGE, TableId, TextId, TextIn, Value, bad_argument, expected, fill, make_frame,
+    text_in,
 };
 pub use outcome::Outcome;
 pub use progress::Progress;

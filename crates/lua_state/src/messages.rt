@@ -4,9 +4,9 @@ ghost use Rattle.mw_frames.specs.LuaMeaningMessages as meaning;
 ghost use Rattle.mw_frames.specs.LuaStoreSeen.{seen};
 ghost use Rattle.lua_arms.specs.Steps as steps;
 
-use lua_arms::{Failure, NumberFault};
+use lua_arms::Failure;
 use lua_code::NoMemory;
-use mw_frames::{Value, kind_of};
+use mw_frames::{Value, kind_of, number_fault};
 use std::alloc::Global;
 
 /// More bytes behind a text.
@@ -73,17 +73,6 @@ fn cannot_compare(alloc: Global, first: Value, second: Value) -> Result<Vec<u8>,
         return two_alike(alloc, a);
     }
     two_kinds(alloc, a, b)
-}
-
-/// Why an operator gave no number.
-fn number_fault(fault: NumberFault) -> &'static [u8]
-    ensures { result.now ≡ meaning.number_fault fault }
-{
-    match fault {
-        NumberFault::OutOfRange => b"number out of range",
-        NumberFault::NotWhole => b"quotient is not whole",
-        NumberFault::ByZero => b"division by zero",
-    }
 }
 
 /// The text of what failed, without its place.

@@ -48,7 +48,10 @@ fn read_numbers<'a>(
     args: &'a [Value],
 ) -> Result<NumbersRead<'a>, NoMemory>
     requires { AllOf store.now args.now }
-    ensures { IfOk result (λ read. (function : Bytes) → numbers_from 1 function (values_seen store.now.texts args.now) ≡ found_numbers function store.now.texts read) }
+    ensures { IfOk result (λ read.
+        (function : Bytes)
+        → numbers_from 1 function (values_seen store.now.texts args.now)
+        ≡ found_numbers function store.now.texts read) }
 {
     let mut numbers = List::new(alloc);
     let mut n: u64 = 1;
@@ -72,9 +75,11 @@ pub fn all_numbers(
     args: &[Value],
 ) -> Result<List<i64>, Stop>
     requires { AllOf store.old args.now }
-    ensures found { IfOk result (λ numbers. numbers_from 1 function.now (values_seen store.old.texts args.now) ≡ Ok numbers) }
+    ensures found { IfOk result (λ numbers.
+        numbers_from 1 function.now (values_seen store.old.texts args.now) ≡ Ok numbers) }
     ensures same { OnOk result (store.new ≡ store.old) }
-    ensures refused { IfErr result (Refuses (numbers_from 1 function.now (values_seen store.old.texts args.now)) store.old store.new) }
+    ensures refused { IfErr result (Refuses
+        (numbers_from 1 function.now (values_seen store.old.texts args.now)) store.old store.new) }
     ensures of { IfErr result (StopOf store.new) }
     ensures later { IsLater store.old store.new }
 {
@@ -89,14 +94,19 @@ pub fn all_numbers(
 
 /// The byte with a code.
 fn byte_with(code: i64) -> Option<u8>
-    ensures { MatchOption result (is_code code ≡ false) (λ byte. (is_code code ≡ true) × (byte ≡ unsigned_abs code)) }
+    ensures { MatchOption result (is_code code ≡ false) (λ byte.
+        (is_code code ≡ true) × (byte ≡ unsigned_abs code)) }
 {
     u8::try_from(code).ok()
 }
 
 fn check_each<'a>(store: &Store, args: &'a [Value]) -> Result<CodesCheck<'a>, NoMemory>
     requires { AllOf store.now args.now }
-    ensures { IfOk result (λ check. (function : Bytes) → codes_from 1 function (values_seen store.now.texts args.now) ≡ checked_codes function store.now.texts (codes_of (values_seen store.now.texts args.now)) check) }
+    ensures { IfOk result (λ check.
+        (function : Bytes)
+        → codes_from 1 function (values_seen store.now.texts args.now)
+        ≡ checked_codes function store.now.texts
+        (codes_of (values_seen store.now.texts args.now)) check) }
 {
     let mut n: u64 = 1;
     let mut rest = args;
@@ -121,9 +131,11 @@ pub fn check_codes(
     args: &[Value],
 ) -> Result<(), Stop>
     requires { AllOf store.old args.now }
-    ensures found { OnOk result (codes_from 1 function.now (values_seen store.old.texts args.now) ≡ Ok (codes_of (values_seen store.old.texts args.now))) }
+    ensures found { OnOk result (codes_from 1 function.now (values_seen store.old.texts args.now)
+        ≡ Ok (codes_of (values_seen store.old.texts args.now))) }
     ensures same { OnOk result (store.new ≡ store.old) }
-    ensures refused { IfErr result (Refuses (codes_from 1 function.now (values_seen store.old.texts args.now)) store.old store.new) }
+    ensures refused { IfErr result (Refuses
+        (codes_from 1 function.now (values_seen store.old.texts args.now)) store.old store.new) }
     ensures of { IfErr result (StopOf store.new) }
     ensures later { IsLater store.old store.new }
 {

@@ -51,7 +51,8 @@ pub fn span(s: &[u8], from: usize, to: usize) -> &[u8]
 
 /// The value of a capture.
 fn capture_value(store: &mut Store, s: &[u8], capture: Capture) -> Result<Value, NoMemory>
-    ensures value { IfOk result (λ value. seen store.new.texts value ≡ meaning.capture_value s.now capture) }
+    ensures value { IfOk result (λ value.
+        seen store.new.texts value ≡ meaning.capture_value s.now capture) }
     ensures of { IfOk result (IsOf store.new) }
     ensures heap { store.new.heap ≡ store.old.heap }
     ensures later { IsLater store.old store.new }
@@ -83,7 +84,8 @@ fn push_captures(
     captures: &[Capture],
 ) -> Result<(), NoMemory>
     requires { AllOf store.old values.old }
-    ensures values { OnOk result (values_seen store.new.texts values.new ≡ values_seen store.old.texts values.old ++ meaning.captures_given s.now captures.now) }
+    ensures values { OnOk result (values_seen store.new.texts values.new
+        ≡ values_seen store.old.texts values.old ++ meaning.captures_given s.now captures.now) }
     ensures of { OnOk result (AllOf store.new values.new) }
     ensures heap { store.new.heap ≡ store.old.heap }
     ensures later { IsLater store.old store.new }
@@ -104,7 +106,8 @@ pub fn find_values(
     s: &[u8],
     found: &Match,
 ) -> Result<List<Value>, NoMemory>
-    ensures values { IfOk result (λ values. values_seen store.new.texts values ≡ meaning.find_values s.now found.now) }
+    ensures values { IfOk result (λ values.
+        values_seen store.new.texts values ≡ meaning.find_values s.now found.now) }
     ensures of { IfOk result (AllOf store.new) }
     ensures heap { store.new.heap ≡ store.old.heap }
     ensures later { IsLater store.old store.new }
@@ -124,7 +127,8 @@ fn span_value(
     from: usize,
     to: usize,
 ) -> Result<List<Value>, NoMemory>
-    ensures values { IfOk result (λ values. values_seen store.new.texts values ≡ kind.Text (span_of s.now from to) ∷ []) }
+    ensures values { IfOk result (λ values.
+        values_seen store.new.texts values ≡ kind.Text (span_of s.now from to) ∷ []) }
     ensures of { IfOk result (AllOf store.new) }
     ensures heap { store.new.heap ≡ store.old.heap }
     ensures later { IsLater store.old store.new }
@@ -141,7 +145,8 @@ fn captures_given(
     s: &[u8],
     captures: &[Capture],
 ) -> Result<List<Value>, NoMemory>
-    ensures values { IfOk result (λ values. values_seen store.new.texts values ≡ meaning.captures_given s.now captures.now) }
+    ensures values { IfOk result (λ values.
+        values_seen store.new.texts values ≡ meaning.captures_given s.now captures.now) }
     ensures of { IfOk result (AllOf store.new) }
     ensures heap { store.new.heap ≡ store.old.heap }
     ensures later { IsLater store.old store.new }
@@ -158,7 +163,8 @@ pub fn match_values(
     s: &[u8],
     found: &Match,
 ) -> Result<List<Value>, NoMemory>
-    ensures values { IfOk result (λ values. values_seen store.new.texts values ≡ meaning.match_values s.now found.now) }
+    ensures values { IfOk result (λ values.
+        values_seen store.new.texts values ≡ meaning.match_values s.now found.now) }
     ensures of { IfOk result (AllOf store.new) }
     ensures heap { store.new.heap ≡ store.old.heap }
     ensures later { IsLater store.old store.new }

@@ -48,7 +48,8 @@ fn format_values(
     values: &[Value],
 ) -> Result<List<FormatValue>, NoMemory>
     requires { AllOf store.now values.now }
-    ensures { IfOk result (λ made. made ≡ map meaning.format_value (values_seen store.now.texts values.now)) }
+    ensures { IfOk result (λ made.
+        made ≡ map meaning.format_value (values_seen store.now.texts values.now)) }
 {
     let mut made = List::new(alloc);
     let mut rest = values;
@@ -92,7 +93,11 @@ fn argument_number(at: usize) -> Result<u64, NoMemory>
 
 /// A value is absent or of another kind than was wanted.
 fn refuse_value(alloc: Global, store: &mut Store, at: usize, want: Want, given: &[Value]) -> Stop
-    ensures raises { Stops (fails store.old.heap (bad_argument (at + 2) (codes "format") (expected (meaning.wanted_kind want) (values_seen store.old.texts given.now)))) store.new result }
+    ensures raises { Stops
+        (fails store.old.heap
+        (bad_argument (at + 2) (codes "format")
+        (expected (meaning.wanted_kind want) (values_seen store.old.texts given.now))))
+        store.new result }
     ensures of { StopOf store.new result }
     ensures later { IsLater store.old store.new }
 {
@@ -104,7 +109,8 @@ fn refuse_value(alloc: Global, store: &mut Store, at: usize, want: Want, given: 
 
 /// A number is out of range.
 fn refuse_number(alloc: Global, store: &mut Store, at: usize) -> Stop
-    ensures raises { Stops (fails store.old.heap (out_of_range (at + 2) (codes "format"))) store.new result }
+    ensures raises { Stops (fails store.old.heap (out_of_range (at + 2) (codes "format")))
+        store.new result }
     ensures of { StopOf store.new result }
     ensures later { IsLater store.old store.new }
 {
@@ -116,7 +122,10 @@ fn refuse_number(alloc: Global, store: &mut Store, at: usize) -> Stop
 
 /// A format has a fault.
 fn refuse_format(alloc: Global, store: &mut Store, values: &[Value], fault: FormatFault) -> Stop
-    ensures raises { Stops (fails store.old.heap (meaning.format_message (values_seen store.old.texts values.now) fault)) store.new result }
+    ensures raises { Stops
+        (fails store.old.heap
+        (meaning.format_message (values_seen store.old.texts values.now) fault))
+        store.new result }
     ensures of { StopOf store.new result }
     ensures later { IsLater store.old store.new }
 {
@@ -141,7 +150,9 @@ fn give_formatted(
     length: u64,
 ) -> Result<List<Value>, Stop>
     requires { HasLength (formatted made.now spec.now 0) length }
-    ensures answer { (values : Items kind.Value) → Paid (meaning.laid_out values (formatted made.now spec.now 0) store.old.heap) store.old left.old store.new left.new result }
+    ensures answer { (values : Items kind.Value)
+        → Paid (meaning.laid_out values (formatted made.now spec.now 0) store.old.heap) store.old
+        left.old store.new left.new result }
     ensures of { AnswerOf store.new result }
     ensures later { IsLater store.old store.new }
 {
@@ -164,7 +175,9 @@ fn format_by(
     values: &[Value],
 ) -> Result<List<Value>, Stop>
     requires { AllOf store.old values.now }
-    ensures answer { Paid (meaning.format_by spec.now (values_seen store.old.texts values.now) store.old.heap) store.old left.old store.new left.new result }
+    ensures answer { Paid
+        (meaning.format_by spec.now (values_seen store.old.texts values.now) store.old.heap)
+        store.old left.old store.new left.new result }
     ensures of { AnswerOf store.new result }
     ensures later { IsLater store.old store.new }
 {
@@ -183,7 +196,9 @@ fn format_given(
     args: &[Value],
 ) -> Result<List<Value>, Stop>
     requires { AllOf store.old args.now }
-    ensures answer { Paid (meaning.format_given (values_seen store.old.texts args.now) store.old.heap) store.old left.old store.new left.new result }
+    ensures answer { Paid
+        (meaning.format_given (values_seen store.old.texts args.now) store.old.heap) store.old
+        left.old store.new left.new result }
     ensures of { AnswerOf store.new result }
     ensures later { IsLater store.old store.new }
 {
@@ -199,7 +214,8 @@ pub fn format(
     args: &[Value],
 ) -> Result<List<Value>, Stop>
     requires { AllOf store.old args.now }
-    ensures answer { Paid (meaning.format (values_seen store.old.texts args.now) store.old.heap) store.old left.old store.new left.new result }
+    ensures answer { Paid (meaning.format (values_seen store.old.texts args.now) store.old.heap)
+        store.old left.old store.new left.new result }
     ensures of { AnswerOf store.new result }
     ensures later { IsLater store.old store.new }
 {

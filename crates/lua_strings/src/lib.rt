@@ -32,6 +32,7 @@ pub mod table;
 
 pub use call::string_call;
 pub use lua_basic::arguments::{a_text, number_or};
+pub use lua_basic::charges::{CLOSURE_CHARGE, RUN_CHARGE};
 pub use lua_basic::fields::field;
 pub use lua_basic::messages::{fail, refuse_kind};
 pub use lua_basic::objects::object;

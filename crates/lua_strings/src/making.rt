@@ -42,7 +42,8 @@ fn give_changed(
     which: Change,
     s: &[u8],
 ) -> Result<List<Value>, Stop>
-    ensures answer { Paid (gives_text store.old.heap (change_of which s.now)) store.old left.old store.new left.new result }
+    ensures answer { Paid (gives_text store.old.heap (change_of which s.now)) store.old left.old
+        store.new left.new result }
     ensures of { AnswerOf store.new result }
     ensures later { IsLater store.old store.new }
 {
@@ -62,7 +63,10 @@ fn of_text(
     args: &[Value],
 ) -> Result<List<Value>, Stop>
     requires { AllOf store.old args.now }
-    ensures answer { Paid (meaning.of_text function.now (change_of which) (values_seen store.old.texts args.now) store.old.heap) store.old left.old store.new left.new result }
+    ensures answer { Paid
+        (meaning.of_text function.now (change_of which) (values_seen store.old.texts args.now)
+        store.old.heap)
+        store.old left.old store.new left.new result }
     ensures of { AnswerOf store.new result }
     ensures later { IsLater store.old store.new }
 {
@@ -78,7 +82,8 @@ pub fn lower(
     args: &[Value],
 ) -> Result<List<Value>, Stop>
     requires { AllOf store.old args.now }
-    ensures answer { Paid (meaning.lower (values_seen store.old.texts args.now) store.old.heap) store.old left.old store.new left.new result }
+    ensures answer { Paid (meaning.lower (values_seen store.old.texts args.now) store.old.heap)
+        store.old left.old store.new left.new result }
     ensures of { AnswerOf store.new result }
     ensures later { IsLater store.old store.new }
 {
@@ -93,7 +98,8 @@ pub fn upper(
     args: &[Value],
 ) -> Result<List<Value>, Stop>
     requires { AllOf store.old args.now }
-    ensures answer { Paid (meaning.upper (values_seen store.old.texts args.now) store.old.heap) store.old left.old store.new left.new result }
+    ensures answer { Paid (meaning.upper (values_seen store.old.texts args.now) store.old.heap)
+        store.old left.old store.new left.new result }
     ensures of { AnswerOf store.new result }
     ensures later { IsLater store.old store.new }
 {
@@ -108,7 +114,8 @@ pub fn reverse(
     args: &[Value],
 ) -> Result<List<Value>, Stop>
     requires { AllOf store.old args.now }
-    ensures answer { Paid (meaning.reverse (values_seen store.old.texts args.now) store.old.heap) store.old left.old store.new left.new result }
+    ensures answer { Paid (meaning.reverse (values_seen store.old.texts args.now) store.old.heap)
+        store.old left.old store.new left.new result }
     ensures of { AnswerOf store.new result }
     ensures later { IsLater store.old store.new }
 {
@@ -123,7 +130,8 @@ fn give_copies(
     s: &[u8],
     n: i64,
 ) -> Result<List<Value>, Stop>
-    ensures answer { Paid (gives_text store.old.heap (rep_of s.now n)) store.old left.old store.new left.new result }
+    ensures answer { Paid (gives_text store.old.heap (rep_of s.now n)) store.old left.old
+        store.new left.new result }
     ensures of { AnswerOf store.new result }
     ensures later { IsLater store.old store.new }
 {
@@ -141,7 +149,8 @@ pub fn rep(
     args: &[Value],
 ) -> Result<List<Value>, Stop>
     requires { AllOf store.old args.now }
-    ensures answer { Paid (meaning.rep (values_seen store.old.texts args.now) store.old.heap) store.old left.old store.new left.new result }
+    ensures answer { Paid (meaning.rep (values_seen store.old.texts args.now) store.old.heap)
+        store.old left.old store.new left.new result }
     ensures of { AnswerOf store.new result }
     ensures later { IsLater store.old store.new }
 {
@@ -158,7 +167,9 @@ fn give_bytes(
     args: &[Value],
 ) -> Result<List<Value>, Stop>
     requires { AllOf store.old args.now }
-    ensures answer { Paid (gives_text store.old.heap (codes_of (values_seen store.old.texts args.now))) store.old left.old store.new left.new result }
+    ensures answer { Paid
+        (gives_text store.old.heap (codes_of (values_seen store.old.texts args.now))) store.old
+        left.old store.new left.new result }
     ensures of { AnswerOf store.new result }
     ensures later { IsLater store.old store.new }
 {
@@ -176,7 +187,8 @@ pub fn char_of(
     args: &[Value],
 ) -> Result<List<Value>, Stop>
     requires { AllOf store.old args.now }
-    ensures answer { Paid (meaning.char_of (values_seen store.old.texts args.now) store.old.heap) store.old left.old store.new left.new result }
+    ensures answer { Paid (meaning.char_of (values_seen store.old.texts args.now) store.old.heap)
+        store.old left.old store.new left.new result }
     ensures of { AnswerOf store.new result }
     ensures later { IsLater store.old store.new }
 {
@@ -187,7 +199,8 @@ pub fn char_of(
 /// `string.len(s)`
 pub fn len(alloc: Global, store: &mut Store, args: &[Value]) -> Result<List<Value>, Stop>
     requires { AllOf store.old args.now }
-    ensures answer { Free (meaning.len (values_seen store.old.texts args.now) store.old.heap) store.new result }
+    ensures answer { Free (meaning.len (values_seen store.old.texts args.now) store.old.heap)
+        store.new result }
     ensures of { AnswerOf store.new result }
     ensures later { IsLater store.old store.new }
 {

@@ -52,7 +52,8 @@ fn malformed_pattern(alloc: Global, n: u8) -> Result<Vec<u8>, NoMemory>
 
 /// An argument is bad.
 pub fn refuse(alloc: Global, store: &mut Store, n: u64, function: &[u8], why: &[u8]) -> Stop
-    ensures raises { Stops (fails store.old.heap (meaning.bad_argument n function.now why.now)) store.new result }
+    ensures raises { Stops (fails store.old.heap (meaning.bad_argument n function.now why.now))
+        store.new result }
     ensures of { StopOf store.new result }
     ensures later { IsLater store.old store.new }
 {
@@ -71,7 +72,11 @@ pub fn refuse_kind(
     wanted: &[u8],
     given: &[Value],
 ) -> Stop
-    ensures raises { Stops (fails store.old.heap (meaning.bad_argument n function.now (meaning.expected wanted.now (values_seen store.old.texts given.now)))) store.new result }
+    ensures raises { Stops
+        (fails store.old.heap
+        (meaning.bad_argument n function.now
+        (meaning.expected wanted.now (values_seen store.old.texts given.now))))
+        store.new result }
     ensures of { StopOf store.new result }
     ensures later { IsLater store.old store.new }
 {

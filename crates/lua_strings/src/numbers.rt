@@ -1,7 +1,6 @@
 //! The functions of `math` (manual 5.6), which cost nothing.
 ghost use Rattle.std.specs.Prelude.{◌≡◌, Result as Either, ℤ};
 ghost use Rattle.lua_string.specs.LuaNumberDeclaredArithmeticNumberFault.{NumberFault as Fault};
-ghost use Rattle.lua_basic.specs.LuaMeaningMessages.{number_fault};
 ghost use Rattle.lua_basic.specs.LuaStoreParts.{IsLater};
 ghost use Rattle.lua_basic.specs.Seen.{values_seen, AllOf, Free, AnswerOf};
 ghost use Rattle.lua_basic.specs.LuaMeaningNumbers as meaning;
@@ -10,7 +9,7 @@ ghost use Rattle.lua_strings.specs.Found.{one_of, two_of, all_of};
 use crate::arguments::all_numbers;
 use crate::messages::refuse_kind;
 use lua_basic::arguments::a_number;
-use lua_basic::messages::fail;
+use lua_basic::messages::{fail, number_fault};
 use lua_basic::values::{rest, single};
 use lua_basic::{Stop, Store, Value};
 use lua_pattern::List;
@@ -65,17 +64,6 @@ fn all_of_them(which: OfAll, numbers: &[i64]) -> Option<i64>
     }
 }
 
-/// The message of a fault.
-fn fault_message(fault: NumberFault) -> &'static [u8]
-    ensures { result.now ≡ number_fault fault }
-{
-    match fault {
-        NumberFault::OutOfRange => b"number out of range",
-        NumberFault::NotWhole => b"quotient is not whole",
-        NumberFault::ByZero => b"division by zero",
-    }
-}
-
 /// A number is given, or the message of its fault.
 fn give_number(
     alloc: Global,
@@ -91,7 +79,7 @@ fn give_number(
             let values = single(alloc, Value::Number(n))?;
             Ok(values)
         }
-        Err(fault) => Err(fail(store, fault_message(fault))),
+        Err(fault) => Err(fail(store, number_fault(fault))),
     }
 }
 
@@ -103,7 +91,10 @@ fn of_number(
     args: &[Value],
 ) -> Result<List<Value>, Stop>
     requires { AllOf store.old args.now }
-    ensures answer { Free (meaning.of_number function.now (one_of which) (values_seen store.old.texts args.now) store.old.heap) store.new result }
+    ensures answer { Free
+        (meaning.of_number function.now (one_of which) (values_seen store.old.texts args.now)
+        store.old.heap)
+        store.new result }
     ensures of { AnswerOf store.new result }
     ensures later { IsLater store.old store.new }
 {
@@ -119,7 +110,10 @@ fn of_two(
     args: &[Value],
 ) -> Result<List<Value>, Stop>
     requires { AllOf store.old args.now }
-    ensures answer { Free (meaning.of_two function.now (two_of which) (values_seen store.old.texts args.now) store.old.heap) store.new result }
+    ensures answer { Free
+        (meaning.of_two function.now (two_of which) (values_seen store.old.texts args.now)
+        store.old.heap)
+        store.new result }
     ensures of { AnswerOf store.new result }
     ensures later { IsLater store.old store.new }
 {
@@ -136,7 +130,10 @@ fn of_all(
     args: &[Value],
 ) -> Result<List<Value>, Stop>
     requires { AllOf store.old args.now }
-    ensures answer { Free (meaning.of_all function.now (all_of which) (values_seen store.old.texts args.now) store.old.heap) store.new result }
+    ensures answer { Free
+        (meaning.of_all function.now (all_of which) (values_seen store.old.texts args.now)
+        store.old.heap)
+        store.new result }
     ensures of { AnswerOf store.new result }
     ensures later { IsLater store.old store.new }
 {
@@ -153,7 +150,8 @@ fn of_all(
 /// `math.abs(n)`: without its sign; out of range for the least number.
 pub fn abs(alloc: Global, store: &mut Store, args: &[Value]) -> Result<List<Value>, Stop>
     requires { AllOf store.old args.now }
-    ensures answer { Free (meaning.abs (values_seen store.old.texts args.now) store.old.heap) store.new result }
+    ensures answer { Free (meaning.abs (values_seen store.old.texts args.now) store.old.heap)
+        store.new result }
     ensures of { AnswerOf store.new result }
     ensures later { IsLater store.old store.new }
 {
@@ -163,7 +161,8 @@ pub fn abs(alloc: Global, store: &mut Store, args: &[Value]) -> Result<List<Valu
 /// `math.ceil(n)`: n, since every number is whole.
 pub fn ceil(alloc: Global, store: &mut Store, args: &[Value]) -> Result<List<Value>, Stop>
     requires { AllOf store.old args.now }
-    ensures answer { Free (meaning.ceil (values_seen store.old.texts args.now) store.old.heap) store.new result }
+    ensures answer { Free (meaning.ceil (values_seen store.old.texts args.now) store.old.heap)
+        store.new result }
     ensures of { AnswerOf store.new result }
     ensures later { IsLater store.old store.new }
 {
@@ -173,7 +172,8 @@ pub fn ceil(alloc: Global, store: &mut Store, args: &[Value]) -> Result<List<Val
 /// `math.floor(n)`: n, since every number is whole.
 pub fn floor(alloc: Global, store: &mut Store, args: &[Value]) -> Result<List<Value>, Stop>
     requires { AllOf store.old args.now }
-    ensures answer { Free (meaning.floor (values_seen store.old.texts args.now) store.old.heap) store.new result }
+    ensures answer { Free (meaning.floor (values_seen store.old.texts args.now) store.old.heap)
+        store.new result }
     ensures of { AnswerOf store.new result }
     ensures later { IsLater store.old store.new }
 {
@@ -183,7 +183,8 @@ pub fn floor(alloc: Global, store: &mut Store, args: &[Value]) -> Result<List<Va
 /// `math.fmod(a, b)`: the rest of the division towards zero, which has the sign of a.
 pub fn fmod(alloc: Global, store: &mut Store, args: &[Value]) -> Result<List<Value>, Stop>
     requires { AllOf store.old args.now }
-    ensures answer { Free (meaning.fmod (values_seen store.old.texts args.now) store.old.heap) store.new result }
+    ensures answer { Free (meaning.fmod (values_seen store.old.texts args.now) store.old.heap)
+        store.new result }
     ensures of { AnswerOf store.new result }
     ensures later { IsLater store.old store.new }
 {
@@ -193,7 +194,8 @@ pub fn fmod(alloc: Global, store: &mut Store, args: &[Value]) -> Result<List<Val
 /// `math.pow(a, b)`: as `a ^ b`.
 pub fn pow(alloc: Global, store: &mut Store, args: &[Value]) -> Result<List<Value>, Stop>
     requires { AllOf store.old args.now }
-    ensures answer { Free (meaning.pow (values_seen store.old.texts args.now) store.old.heap) store.new result }
+    ensures answer { Free (meaning.pow (values_seen store.old.texts args.now) store.old.heap)
+        store.new result }
     ensures of { AnswerOf store.new result }
     ensures later { IsLater store.old store.new }
 {
@@ -203,7 +205,8 @@ pub fn pow(alloc: Global, store: &mut Store, args: &[Value]) -> Result<List<Valu
 /// `math.max(..)`: the greatest of its arguments, of which there must be one.
 pub fn max(alloc: Global, store: &mut Store, args: &[Value]) -> Result<List<Value>, Stop>
     requires { AllOf store.old args.now }
-    ensures answer { Free (meaning.max (values_seen store.old.texts args.now) store.old.heap) store.new result }
+    ensures answer { Free (meaning.max (values_seen store.old.texts args.now) store.old.heap)
+        store.new result }
     ensures of { AnswerOf store.new result }
     ensures later { IsLater store.old store.new }
 {
@@ -213,7 +216,8 @@ pub fn max(alloc: Global, store: &mut Store, args: &[Value]) -> Result<List<Valu
 /// `math.min(..)`: the least of its arguments, of which there must be one.
 pub fn min(alloc: Global, store: &mut Store, args: &[Value]) -> Result<List<Value>, Stop>
     requires { AllOf store.old args.now }
-    ensures answer { Free (meaning.min (values_seen store.old.texts args.now) store.old.heap) store.new result }
+    ensures answer { Free (meaning.min (values_seen store.old.texts args.now) store.old.heap)
+        store.new result }
     ensures of { AnswerOf store.new result }
     ensures later { IsLater store.old store.new }
 {

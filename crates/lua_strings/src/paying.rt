@@ -53,7 +53,8 @@ pub fn split_values(values: &[Value]) -> Option<(Value, &[Value])>
 /// What a value costs as an argument: its bytes, where it is a text.
 fn text_cost(store: &Store, value: Value) -> u64
     requires { IsOf store.now value }
-    ensures { (more : Items kind.Value) → text_charge (seen store.now.texts value ∷ more) ≡ result + text_charge more }
+    ensures { (more : Items kind.Value)
+        → text_charge (seen store.now.texts value ∷ more) ≡ result + text_charge more }
 {
     match value {
         Value::Text(text) => store.bytes(text).len() as u64,
@@ -82,7 +83,8 @@ pub fn take_texts(store: &Store, left: &mut Left, args: &[Value]) -> Result<(), 
 
 /// A text as the only value of a list. It is paid for already.
 pub fn text_value(alloc: Global, store: &mut Store, bytes: &[u8]) -> Result<List<Value>, NoMemory>
-    ensures value { IfOk result (λ values. values_seen store.new.texts values ≡ kind.Text bytes.now ∷ []) }
+    ensures value { IfOk result (λ values.
+        values_seen store.new.texts values ≡ kind.Text bytes.now ∷ []) }
     ensures of { IfOk result (AllOf store.new) }
     ensures heap { store.new.heap ≡ store.old.heap }
     ensures later { IsLater store.old store.new }
@@ -96,7 +98,8 @@ pub fn text_value(alloc: Global, store: &mut Store, bytes: &[u8]) -> Result<List
 
 /// A text is given as one value with no list around it, after a step for each of its bytes.
 pub fn give_one_text(store: &mut Store, left: &mut Left, bytes: &[u8]) -> Result<Value, Stop>
-    ensures answer { Paid (gives_text store.old.heap bytes.now) store.old left.old store.new left.new (alone result) }
+    ensures answer { Paid (gives_text store.old.heap bytes.now) store.old left.old
+        store.new left.new (alone result) }
     ensures of { AnswerOf store.new (alone result) }
     ensures later { IsLater store.old store.new }
 {
@@ -121,7 +124,8 @@ pub fn give_text(
     left: &mut Left,
     bytes: &[u8],
 ) -> Result<List<Value>, Stop>
-    ensures answer { Paid (gives_text store.old.heap bytes.now) store.old left.old store.new left.new result }
+    ensures answer { Paid (gives_text store.old.heap bytes.now) store.old left.old
+        store.new left.new result }
     ensures of { AnswerOf store.new result }
     ensures later { IsLater store.old store.new }
 {

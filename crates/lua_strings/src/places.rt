@@ -34,7 +34,8 @@ fn code_value(byte: u8) -> Value
 
 /// The codes of bytes as values.
 fn code_values(alloc: Global, bytes: &[u8]) -> Result<List<Value>, NoMemory>
-    ensures values { IfOk result (λ values. (texts : Items (Items ℕ)) → values_seen texts values ≡ meaning.code_values bytes.now) }
+    ensures values { IfOk result (λ values.
+        (texts : Items (Items ℕ)) → values_seen texts values ≡ meaning.code_values bytes.now) }
     ensures of { IfOk result (λ values. (s : StoreView) → AllOf s values) }
 {
     let mut values = List::new(alloc);
@@ -53,7 +54,8 @@ fn give_codes(
     left: &mut Left,
     bytes: &[u8],
 ) -> Result<List<Value>, Stop>
-    ensures answer { Paid (meaning.give_codes store.old.heap bytes.now) store.old left.old store.new left.new result }
+    ensures answer { Paid (meaning.give_codes store.old.heap bytes.now) store.old left.old
+        store.new left.new result }
     ensures of { AnswerOf store.new result }
     ensures later { IsLater store.old store.new }
 {
@@ -70,7 +72,8 @@ pub fn byte(
     args: &[Value],
 ) -> Result<List<Value>, Stop>
     requires { AllOf store.old args.now }
-    ensures answer { Paid (meaning.byte (values_seen store.old.texts args.now) store.old.heap) store.old left.old store.new left.new result }
+    ensures answer { Paid (meaning.byte (values_seen store.old.texts args.now) store.old.heap)
+        store.old left.old store.new left.new result }
     ensures of { AnswerOf store.new result }
     ensures later { IsLater store.old store.new }
 {
@@ -84,7 +87,8 @@ pub fn byte(
 /// `string.sub(s, i, j)`: the bytes from place i to place j. Each answer is one value, which needs no list.
 pub fn sub(alloc: Global, store: &mut Store, left: &mut Left, args: &[Value]) -> Result<Value, Stop>
     requires { AllOf store.old args.now }
-    ensures answer { Paid (meaning.sub (values_seen store.old.texts args.now) store.old.heap) store.old left.old store.new left.new (alone result) }
+    ensures answer { Paid (meaning.sub (values_seen store.old.texts args.now) store.old.heap)
+        store.old left.old store.new left.new (alone result) }
     ensures of { AnswerOf store.new (alone result) }
     ensures later { IsLater store.old store.new }
 {

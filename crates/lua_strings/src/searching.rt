@@ -52,7 +52,8 @@ fn wanted_values(
     s: &[u8],
     found: &Match,
 ) -> Result<List<Value>, NoMemory>
-    ensures values { IfOk result (λ values. values_seen store.new.texts values ≡ values_of which s.now found.now) }
+    ensures values { IfOk result (λ values.
+        values_seen store.new.texts values ≡ values_of which s.now found.now) }
     ensures of { IfOk result (AllOf store.new) }
     ensures heap { store.new.heap ≡ store.old.heap }
     ensures later { IsLater store.old store.new }
@@ -72,7 +73,9 @@ fn search(
     init: i64,
     budget: u64,
 ) -> Result<Search, PatternFault>
-    ensures { MatchResult result (λ found. Answers (bytes_of which) budget s.now pattern.now init found) (λ e. IsReadFault (read_of (symbol_codes bytes pattern.now)) e) }
+    ensures { MatchResult result
+        (λ found. Answers (bytes_of which) budget s.now pattern.now init found)
+        (λ e. IsReadFault (read_of (symbol_codes bytes pattern.now)) e) }
 {
     match which {
         Wanted::Find => lua_string::find(alloc, s, pattern, init, false, budget),
@@ -87,7 +90,8 @@ fn give_nil(
     left: &mut Left,
     steps: u64,
 ) -> Result<List<Value>, Stop>
-    ensures answer { Paid (costs steps store.old.heap (kind.Nil ∷ [])) store.old left.old store.new left.new result }
+    ensures answer { Paid (costs steps store.old.heap (kind.Nil ∷ [])) store.old left.old
+        store.new left.new result }
     ensures of { AnswerOf store.new result }
     ensures later { IsLater store.old store.new }
 {
@@ -107,7 +111,9 @@ fn give_match(
     tries: u64,
 ) -> Result<List<Value>, Stop>
     requires { tries + bytes_of which found.now ≤ left.old.steps }
-    ensures answer { Paid (costs (tries + bytes_of which found.now) store.old.heap (values_of which s.now found.now)) store.old left.old store.new left.new result }
+    ensures answer { Paid
+        (costs (tries + bytes_of which found.now) store.old.heap (values_of which s.now found.now))
+        store.old left.old store.new left.new result }
     ensures of { AnswerOf store.new result }
     ensures later { IsLater store.old store.new }
 {
@@ -128,7 +134,11 @@ fn give_found(
     found: &Search,
 ) -> Result<List<Value>, Stop>
     requires { IsCovered (bytes_of which) left.old.steps found.now }
-    ensures answer { (slots : Items AnySlot) (answer : Answer) → IsPriced (bytes_of which) left.old.steps slots answer found.now → Paid (meaning.answered (bytes_of which) (values_of which s.now) slots answer store.old.heap) store.old left.old store.new left.new result }
+    ensures answer { (slots : Items AnySlot) (answer : Answer)
+        → IsPriced (bytes_of which) left.old.steps slots answer found.now
+        → Paid
+        (meaning.answered (bytes_of which) (values_of which s.now) slots answer store.old.heap)
+        store.old left.old store.new left.new result }
     ensures of { AnswerOf store.new result }
     ensures later { IsLater store.old store.new }
 {
@@ -149,7 +159,11 @@ fn answered(
     pattern: &[u8],
     init: i64,
 ) -> Result<List<Value>, Stop>
-    ensures answer { Paid (meaning.by_pattern (bytes_of which) (values_of which s.now) s.now (first_of (length s.now) init) (read_of (symbol_codes bytes pattern.now)) store.old.heap) store.old left.old store.new left.new result }
+    ensures answer { Paid
+        (meaning.by_pattern (bytes_of which) (values_of which s.now) s.now
+        (first_of (length s.now) init) (read_of (symbol_codes bytes pattern.now))
+        store.old.heap)
+        store.old left.old store.new left.new result }
     ensures of { AnswerOf store.new result }
     ensures later { IsLater store.old store.new }
 {
@@ -170,7 +184,10 @@ fn searched(
     pattern: &[u8],
     init: i64,
 ) -> Result<List<Value>, Stop>
-    ensures answer { Paid (meaning.searched (bytes_of which) (values_of which s.now) s.now pattern.now init store.old.heap) store.old left.old store.new left.new result }
+    ensures answer { Paid
+        (meaning.searched (bytes_of which) (values_of which s.now) s.now pattern.now init
+        store.old.heap)
+        store.old left.old store.new left.new result }
     ensures of { AnswerOf store.new result }
     ensures later { IsLater store.old store.new }
 {
@@ -186,7 +203,10 @@ fn plain_values(
     needle: &[u8],
     init: i64,
 ) -> Result<List<Value>, NoMemory>
-    ensures values { IfOk result (λ values. values_seen store.new.texts values ≡ meaning.plain_values (first_of (length s.now) init) (length needle.now) (place_of needle.now (drop (first_of (length s.now) init) s.now))) }
+    ensures values { IfOk result (λ values.
+        values_seen store.new.texts values
+        ≡ meaning.plain_values (first_of (length s.now) init) (length needle.now)
+        (place_of needle.now (drop (first_of (length s.now) init) s.now))) }
     ensures of { IfOk result (AllOf store.new) }
     ensures heap { store.new.heap ≡ store.old.heap }
     ensures later { IsLater store.old store.new }
@@ -208,7 +228,9 @@ fn plain_searched(
     needle: &[u8],
     init: i64,
 ) -> Result<List<Value>, Stop>
-    ensures answer { Paid (meaning.plain_searched s.now needle.now (first_of (length s.now) init) store.old.heap) store.old left.old store.new left.new result }
+    ensures answer { Paid
+        (meaning.plain_searched s.now needle.now (first_of (length s.now) init) store.old.heap)
+        store.old left.old store.new left.new result }
     ensures of { AnswerOf store.new result }
     ensures later { IsLater store.old store.new }
 {
@@ -228,7 +250,8 @@ fn find_in(
     pattern: &[u8],
     init: i64,
 ) -> Result<List<Value>, Stop>
-    ensures answer { Paid (meaning.find_in plain s.now pattern.now init store.old.heap) store.old left.old store.new left.new result }
+    ensures answer { Paid (meaning.find_in plain s.now pattern.now init store.old.heap) store.old
+        left.old store.new left.new result }
     ensures of { AnswerOf store.new result }
     ensures later { IsLater store.old store.new }
 {
@@ -246,7 +269,8 @@ pub fn find(
     args: &[Value],
 ) -> Result<List<Value>, Stop>
     requires { AllOf store.old args.now }
-    ensures answer { Paid (meaning.find (values_seen store.old.texts args.now) store.old.heap) store.old left.old store.new left.new result }
+    ensures answer { Paid (meaning.find (values_seen store.old.texts args.now) store.old.heap)
+        store.old left.old store.new left.new result }
     ensures of { AnswerOf store.new result }
     ensures later { IsLater store.old store.new }
 {
@@ -274,7 +298,8 @@ pub fn match_from(
     args: &[Value],
 ) -> Result<List<Value>, Stop>
     requires { AllOf store.old args.now }
-    ensures answer { Paid (meaning.match_from (values_seen store.old.texts args.now) store.old.heap) store.old left.old store.new left.new result }
+    ensures answer { Paid (meaning.match_from (values_seen store.old.texts args.now) store.old.heap)
+        store.old left.old store.new left.new result }
     ensures of { AnswerOf store.new result }
     ensures later { IsLater store.old store.new }
 {

@@ -41,7 +41,8 @@ fn find<'a, X: Copy>(
     items: &'a IndexMap<Bytes, (Title, X), RandomState>,
     text: &Bytes,
 ) -> Option<&'a X>
-    ensures { option_copied result ≡ option_map (λ x. x.1) (lookup (bytes.ghosts.eq text.now) items.now.entries) }
+    ensures { option_copied result
+        ≡ option_map (λ x. x.1) (lookup (bytes.ghosts.eq text.now) items.now.entries) }
 {
     match items.get(text) {
         Some(held) => Some(&held.1),
@@ -55,7 +56,8 @@ fn item<X: Copy>(
     title: &Title,
 ) -> Result<Option<X>, NoMemory>
     requires { AreNamed items.now.entries }
-    ensures { IfOk result (λ found. found ≡ item_of (titled (items_in items.now.entries)) title.now) }
+    ensures { IfOk result (λ found.
+        found ≡ item_of (titled (items_in items.now.entries)) title.now) }
 {
     let text = title.text()?;
     let found = find(items, &text);
@@ -68,7 +70,8 @@ fn kept_title<X: Copy>(
     text: &Bytes,
     title: Title,
 ) -> Result<Title, NoMemory>
-    ensures { IfOk result (λ kept. kept ≡ title_kept (lookup (bytes.ghosts.eq text.now) items.now.entries) title) }
+    ensures { IfOk result (λ kept.
+        kept ≡ title_kept (lookup (bytes.ghosts.eq text.now) items.now.entries) title) }
 {
     match items.get(text) {
         Some(held) => held.0.copy(),
@@ -83,7 +86,8 @@ fn insert<X: Copy>(
     item: X,
 ) -> Result<(), NoMemory>
     requires { AreNamed items.old.entries }
-    ensures ok { OnOk result (titled (items_in items.new.entries) ≡ with_item (titled (items_in items.old.entries)) title item) }
+    ensures ok { OnOk result (titled (items_in items.new.entries)
+        ≡ with_item (titled (items_in items.old.entries)) title item) }
     ensures named { AreNamed items.new.entries }
     ensures err { OnErr result (items.new.entries ≡ items.old.entries) }
 {
@@ -101,7 +105,8 @@ fn take_out<X: Copy>(
     title: &Title,
 ) -> Result<(), NoMemory>
     requires { AreNamed items.old.entries }
-    ensures ok { OnOk result (titled (items_in items.new.entries) ≡ without_item (titled (items_in items.old.entries)) title.now) }
+    ensures ok { OnOk result (titled (items_in items.new.entries)
+        ≡ without_item (titled (items_in items.old.entries)) title.now) }
     ensures named { AreNamed items.new.entries }
     ensures err { OnErr result (items.new.entries ≡ items.old.entries) }
 {

@@ -46,7 +46,11 @@ pub enum AttrsRead<'b> {
 /// What is written of a value: of a text or a number itself, of true the name alone, and of false nothing.
 fn attr_value<'b>(alloc: Global, store: &Store<'b>, value: Value) -> Result<AttrValue<'b>, NoMemory>
     requires { IsOf store.now value }
-    ensures { IfOk result (λ found. (name : Bytes) → meaning.attribute name (values.text_in (seen store.now.texts value)) (seen store.now.texts value) ≡ found_value name (seen store.now.texts value) found) }
+    ensures { IfOk result (λ found.
+        (name : Bytes)
+        → meaning.attribute name (values.text_in (seen store.now.texts value))
+        (seen store.now.texts value)
+        ≡ found_value name (seen store.now.texts value) found) }
 {
     match value {
         Value::Number(n) => {
@@ -72,7 +76,8 @@ fn read_attribute<'b>(
     entry: (Value, Value),
 ) -> Result<Option<Value>, NoMemory>
     requires { IsEntryOf store.now entry }
-    ensures read { IfOk result (IsRead store.now.texts attrs.old attrs.new (seen_entry store.now.texts entry)) }
+    ensures read { IfOk result (IsRead store.now.texts attrs.old attrs.new
+        (seen_entry store.now.texts entry)) }
     ensures of { IfOk result (λ refused. IfSome refused (IsOf store.now)) }
 {
     let (key, value) = entry;
@@ -106,7 +111,9 @@ fn read_attributes<'b>(
     table: TableId,
 ) -> Result<AttrsRead<'b>, NoMemory>
     requires { IsTableOf store.now table }
-    ensures read { IfOk result (λ found. meaning.attributes (table_at store.now.heap table.at).entries ≡ found_attrs store.now.texts found) }
+    ensures read { IfOk result (λ found.
+        meaning.attributes (table_at store.now.heap table.at).entries
+        ≡ found_attrs store.now.texts found) }
     ensures of { IfOk result (RefusedOf store.now) }
 {
     let mut attrs = List::new(alloc);
@@ -125,8 +132,10 @@ fn read_attributes<'b>(
 
 /// The table of attributes, and nothing for nil; None where it is neither.
 fn attrs_table(value: Value) -> Option<Option<TableId>>
-    ensures found { (texts : Items (Items ℕ)) (h : Heap Proc) → meaning.attributes_in h (seen texts value) ≡ found_table h (seen texts value) result }
-    ensures of { (s : StoreView) → IsOf s value → IfSome result (λ table. IfSome table (IsTableOf s)) }
+    ensures found { (texts : Items (Items ℕ)) (h : Heap Proc)
+        → meaning.attributes_in h (seen texts value) ≡ found_table h (seen texts value) result }
+    ensures of { (s : StoreView) → IsOf s value
+        → IfSome result (λ table. IfSome table (IsTableOf s)) }
 {
     match value {
         Value::Nil => Some(None),
@@ -147,7 +156,8 @@ fn attributes_at<'b>(
     table: Option<TableId>,
 ) -> Result<AttrsRead<'b>, NoMemory>
     requires { IfSome table (IsTableOf store.now) }
-    ensures read { IfOk result (λ found. meaning.attributes (entries_in store.now.heap table) ≡ found_attrs store.now.texts found) }
+    ensures read { IfOk result (λ found.
+        meaning.attributes (entries_in store.now.heap table) ≡ found_attrs store.now.texts found) }
     ensures of { IfOk result (RefusedOf store.now) }
 {
     match table {
@@ -163,9 +173,12 @@ pub fn the_attributes<'b>(
     attrs: Value,
 ) -> Result<List<AttrText<'b>>, Stop>
     requires { IsOf store.old attrs }
-    ensures found { IfOk result (λ read. meaning.attributes_in store.old.heap (seen store.old.texts attrs) ≡ Ok (attrs_written read)) }
+    ensures found { IfOk result (λ read.
+        meaning.attributes_in store.old.heap (seen store.old.texts attrs)
+        ≡ Ok (attrs_written read)) }
     ensures same { OnOk result (store.new ≡ store.old) }
-    ensures refused { IfErr result (Refuses (meaning.attributes_in store.old.heap (seen store.old.texts attrs)) store.old store.new) }
+    ensures refused { IfErr result (Refuses
+        (meaning.attributes_in store.old.heap (seen store.old.texts attrs)) store.old store.new) }
     ensures of { IfErr result (StopOf store.new) }
     ensures later { IsLater store.old store.new }
 {

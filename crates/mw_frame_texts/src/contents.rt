@@ -25,7 +25,10 @@ pub fn content_in<'b>(
     value: Value,
 ) -> Result<Option<Content<'b>>, NoMemory>
     requires { IsOf store.now value }
-    ensures { IfOk result (λ content. (name : Bytes) → meaning.closed_by name (seen store.now.texts value) ≡ found_content name (seen store.now.texts value) content) }
+    ensures { IfOk result (λ content.
+        (name : Bytes)
+        → meaning.closed_by name (seen store.now.texts value)
+        ≡ found_content name (seen store.now.texts value) content) }
 {
     match value {
         Value::Nil => Ok(Some(Content::Nothing)),

@@ -44,7 +44,8 @@ fn copy_attrs(alloc: Global, attrs: &[AttrText]) -> Result<List<TagAttr>, NoMemo
 
 /// What follows the attributes, with a copy of its text.
 fn copy_content(alloc: Global, content: &Content) -> Result<TagContent, NoMemory>
-    ensures { IfOk result (λ copy. (name : Text) → plain.closed_by name copy ≡ content_written name content.now) }
+    ensures { IfOk result (λ copy.
+        (name : Text) → plain.closed_by name copy ≡ content_written name content.now) }
 {
     match content {
         Content::Nothing => Ok(TagContent::Nothing),

@@ -122,7 +122,8 @@ pub fn pay_tag(
 /// What a value costs as an argument: its bytes, where it is a text.
 fn text_cost(store: &Store, value: Value) -> u64
     requires { IsOf store.now value }
-    ensures { (more : List Plain) → text_charge (seen store.now.texts value ∷ more) ≡ result + text_charge more }
+    ensures { (more : List Plain)
+        → text_charge (seen store.now.texts value ∷ more) ≡ result + text_charge more }
 {
     match value {
         Value::Text(text) => store.bytes(text).len() as u64,

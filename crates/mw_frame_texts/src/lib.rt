@@ -22,9 +22,9 @@ pub use mw_frames::merging::merge_args;
 pub use mw_frames::paying::{pay, pay_args, pay_texts, split_args};
 pub use mw_frames::reading::{ArgText, pay_bytes, pay_passed, pay_read, read_args};
 pub use mw_frames::{
-    FieldNames, Left, Library, Parent, SceneFrame, Scenes, Stop, Store, TableId, TextId, TextIn,
-    Value, a_number, a_table, a_text, expected, fail, field_at, first, is_nil, is_true, make_frame,
-    metatable, number_in, number_or, pair, refuse, refuse_kind, rest, second, single, text_in,
-    third,
+    ENTRY_CHARGE, FieldNames, Left, Library, Parent, SceneFrame, Scenes, Stop, Store, TABLE_CHARGE,
+    TableId, TextId, TextIn, Value, a_number, a_table, a_text, expected, fail, field_at, first,
+    is_nil, is_true, make_frame, metatable, number_in, number_or, pair, refuse, refuse_kind, rest,
+    second, single, text_in, third,
 };
 pub use tagging::extension_tag;

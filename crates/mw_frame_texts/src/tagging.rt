@@ -32,7 +32,8 @@ fn give_tag(
     attrs: &[AttrText],
     content: &Content,
 ) -> Result<List<Value>, Stop>
-    ensures answer { Paid (gives_text store.old.heap (tag_written name.now attrs.now content.now)) store.old left.old store.new left.new result }
+    ensures answer { Paid (gives_text store.old.heap (tag_written name.now attrs.now content.now))
+        store.old left.old store.new left.new result }
     ensures of { AnswerOf store.new result }
     ensures later { IsLater store.old store.new }
 {
@@ -46,7 +47,8 @@ fn give_tag(
 /// Takes a step for each cleared entry that is passed, where the attributes are a table.
 fn pay_attributes(store: &Store, left: &mut Left, attrs: Value) -> Result<(), Stop>
     requires { IsOf store.now attrs }
-    ensures { MayPay (meaning.passed_in store.now.heap (seen store.now.texts attrs)) left.old left.new result }
+    ensures { MayPay (meaning.passed_in store.now.heap (seen store.now.texts attrs)) left.old
+        left.new result }
 {
     match attrs {
         Value::Table(table) => pay_passed(store, left, table),
@@ -71,7 +73,10 @@ fn tag_named(
 ) -> Result<List<Value>, Stop>
     requires attrs { IsOf store.old attrs }
     requires content { IsOf store.old value }
-    ensures answer { Paid (tag_behind name.now (seen store.old.texts attrs) (seen store.old.texts value) store.old.heap) store.old left.old store.new left.new result }
+    ensures answer { Paid
+        (tag_behind name.now (seen store.old.texts attrs) (seen store.old.texts value)
+        store.old.heap)
+        store.old left.old store.new left.new result }
     ensures of { AnswerOf store.new result }
     ensures later { IsLater store.old store.new }
 {
@@ -94,7 +99,12 @@ pub fn tag_of(
     requires names { AllOf store.old names.now }
     requires attrs { IsOf store.old attrs }
     requires content { IsOf store.old value }
-    ensures answer { Paid (meaning.tag_of (parts (values_seen store.old.texts names.now) (seen store.old.texts attrs) (seen store.old.texts value)) store.old.heap) store.old left.old store.new left.new result }
+    ensures answer { Paid
+        (meaning.tag_of
+        (parts (values_seen store.old.texts names.now) (seen store.old.texts attrs)
+        (seen store.old.texts value))
+        store.old.heap)
+        store.old left.old store.new left.new result }
     ensures of { AnswerOf store.new result }
     ensures later { IsLater store.old store.new }
 {
@@ -106,7 +116,9 @@ pub fn tag_of(
 /// The first of the arguments, where it is a table, which then has the parts as fields.
 fn table_in(given: &[Value]) -> Option<TableId>
     ensures of { (s : StoreView) → AllOf s given.now → IfSome result (IsTableOf s) }
-    ensures split { (texts : Items (Items ℕ)) (h : Heap Proc) → meaning.extension_parts h (values_seen texts given.now) ≡ found_parts h (values_seen texts given.now) result }
+    ensures split { (texts : Items (Items ℕ)) (h : Heap Proc)
+        → meaning.extension_parts h (values_seen texts given.now)
+        ≡ found_parts h (values_seen texts given.now) result }
 {
     match given {
         [Value::Table(id), ..] => Some(*id),
@@ -124,7 +136,11 @@ fn tag_given(
 ) -> Result<List<Value>, Stop>
     requires given { AllOf store.old given.now }
     requires names { NamesOf store.old names }
-    ensures answer { Paid (meaning.tag_of (meaning.extension_parts store.old.heap (values_seen store.old.texts given.now)) store.old.heap) store.old left.old store.new left.new result }
+    ensures answer { Paid
+        (meaning.tag_of
+        (meaning.extension_parts store.old.heap (values_seen store.old.texts given.now))
+        store.old.heap)
+        store.old left.old store.new left.new result }
     ensures of { AnswerOf store.new result }
     ensures later { IsLater store.old store.new }
 {
@@ -150,7 +166,9 @@ pub fn extension_tag(
 ) -> Result<List<Value>, Stop>
     requires given { AllOf store.old given.now }
     requires names { NamesOf store.old names }
-    ensures answer { Paid (meaning.extension_tag (values_seen store.old.texts given.now) store.old.heap) store.old left.old store.new left.new result }
+    ensures answer { Paid
+        (meaning.extension_tag (values_seen store.old.texts given.now) store.old.heap) store.old
+        left.old store.new left.new result }
     ensures of { AnswerOf store.new result }
     ensures later { IsLater store.old store.new }
 {

@@ -17,7 +17,8 @@ use std::alloc::Global;
 /// The entry of the number that a name of a place is, or nil.
 fn at_place(store: &Store, table: TableId, name: &[u8]) -> Value
     requires { IsTableOf store.now table }
-    ensures value { meaning.by_key store.now.heap table.at (kind.Text name.now) ≡ gives store.now.heap (seen store.now.texts result ∷ []) }
+    ensures value { meaning.by_key store.now.heap table.at (kind.Text name.now)
+        ≡ gives store.now.heap (seen store.now.texts result ∷ []) }
     ensures of { IsOf store.now result }
 {
     if is_place(name) {
@@ -30,7 +31,8 @@ fn at_place(store: &Store, table: TableId, name: &[u8]) -> Value
 fn entry_at(store: &Store, table: TableId, key: Value) -> Value
     requires table { IsTableOf store.now table }
     requires key { IsOf store.now key }
-    ensures value { meaning.by_key store.now.heap table.at (seen store.now.texts key) ≡ gives store.now.heap (seen store.now.texts result ∷ []) }
+    ensures value { meaning.by_key store.now.heap table.at (seen store.now.texts key)
+        ≡ gives store.now.heap (seen store.now.texts result ∷ []) }
     ensures of { IsOf store.now result }
 {
     match key {
@@ -48,7 +50,8 @@ fn entry_at(store: &Store, table: TableId, key: Value) -> Value
 /// `args[k]` where k is absent.
 pub fn args_index(alloc: Global, store: &mut Store, args: &[Value]) -> Result<List<Value>, Stop>
     requires { AllOf store.old args.now }
-    ensures answer { Free (meaning.args_index (values_seen store.old.texts args.now) store.old.heap) store.new result }
+    ensures answer { Free (meaning.args_index (values_seen store.old.texts args.now) store.old.heap)
+        store.new result }
     ensures of { AnswerOf store.new result }
     ensures later { IsLater store.old store.new }
 {

@@ -62,7 +62,8 @@ pub fn arg_key(store: &mut Store, name: &[u8]) -> Result<Value, NoMemory>
     ensures of { IfOk result (IsOf store.new) }
     ensures value { IfOk result (λ v. seen store.new.texts v ≡ meaning.arg_key name.now) }
     ensures heap { store.new.heap ≡ store.old.heap }
-    ensures stays { (v : own.Value) → IsOf store.old v → IsOf store.new v × (seen store.new.texts v ≡ seen store.old.texts v) }
+    ensures stays { (v : own.Value) → IsOf store.old v
+        → IsOf store.new v × (seen store.new.texts v ≡ seen store.old.texts v) }
     ensures later { IsLater store.old store.new }
 {
     if is_place(name) {
@@ -77,7 +78,8 @@ fn set(store: &mut Store, table: TableId, key: Value, value: Value) -> Result<()
     requires table { IsTableOf store.old table }
     requires key { IsOf store.old key }
     requires value { IsOf store.old value }
-    ensures put { OnOk result (store.new.heap ≡ set_in store.old.heap table.at (seen store.old.texts key) (seen store.old.texts value)) }
+    ensures put { OnOk result (store.new.heap
+        ≡ set_in store.old.heap table.at (seen store.old.texts key) (seen store.old.texts value)) }
     ensures later { IsLater store.old store.new }
 {
     match store.set(table, key, value) {
@@ -95,7 +97,8 @@ pub fn set_field(
 ) -> Result<(), NoMemory>
     requires table { IsTableOf store.old table }
     requires value { IsOf store.old value }
-    ensures put { OnOk result (store.new.heap ≡ set_in store.old.heap table.at (kind.Text name.now) (seen store.old.texts value)) }
+    ensures put { OnOk result (store.new.heap
+        ≡ set_in store.old.heap table.at (kind.Text name.now) (seen store.old.texts value)) }
     ensures later { IsLater store.old store.new }
 {
     let name = store.text(name)?;
@@ -105,7 +108,8 @@ pub fn set_field(
 /// Sets an entry of a table that is a number.
 pub fn set_item(store: &mut Store, table: TableId, place: i64, number: i64) -> Result<(), NoMemory>
     requires { IsTableOf store.old table }
-    ensures put { OnOk result (store.new.heap ≡ set_in store.old.heap table.at (kind.Number place) (kind.Number number)) }
+    ensures put { OnOk result (store.new.heap
+        ≡ set_in store.old.heap table.at (kind.Number place) (kind.Number number)) }
     ensures later { IsLater store.old store.new }
 {
     set(store, table, Value::Number(place), Value::Number(number))
@@ -114,7 +118,8 @@ pub fn set_item(store: &mut Store, table: TableId, place: i64, number: i64) -> R
 /// Sets an argument in a table.
 fn set_arg(store: &mut Store, table: TableId, arg: &Arg) -> Result<(), NoMemory>
     requires { IsTableOf store.old table }
-    ensures put { OnOk result (store.new.heap ≡ set_in store.old.heap table.at (meaning.arg_key arg.now.name) (kind.Text arg.now.value)) }
+    ensures put { OnOk result (store.new.heap
+        ≡ set_in store.old.heap table.at (meaning.arg_key arg.now.name) (kind.Text arg.now.value)) }
     ensures later { IsLater store.old store.new }
 {
     let text = store.text(arg.value.as_slice())?;
@@ -125,7 +130,8 @@ fn set_arg(store: &mut Store, table: TableId, arg: &Arg) -> Result<(), NoMemory>
 /// Sets arguments in a table, one after another.
 pub fn fill_args(store: &mut Store, table: TableId, args: &[Arg]) -> Result<(), NoMemory>
     requires { IsTableOf store.old table }
-    ensures put { OnOk result (store.new.heap ≡ filled table.at (map arg_entry args.now) store.old.heap) }
+    ensures put { OnOk result (store.new.heap
+        ≡ filled table.at (map arg_entry args.now) store.old.heap) }
     ensures later { IsLater store.old store.new }
 {
     let mut left = args;

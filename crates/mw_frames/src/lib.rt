@@ -23,8 +23,9 @@ pub mod scenes;
 
 pub use index::args_index;
 pub use lua_basic::arguments::{a_number, a_table, a_text, number_or};
+pub use lua_basic::charges::{CLOSURE_CHARGE, ENTRY_CHARGE, TABLE_CHARGE};
 pub use lua_basic::fields::{field_at, metatable};
-pub use lua_basic::messages::{bad_argument, expected, fail, refuse, refuse_kind};
+pub use lua_basic::messages::{bad_argument, expected, fail, number_fault, refuse, refuse_kind};
 pub use lua_basic::texts::{TextIn, text_in};
 pub use lua_basic::values::{
     first, is_nil, is_true, kind_of, number_in, pair, rest, second, single, third,

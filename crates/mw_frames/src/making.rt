@@ -47,7 +47,8 @@ fn fill_args_meta(store: &mut Store, table: TableId) -> Result<(), NoMemory>
 fn fill_frame(store: &mut Store, table: TableId, args: TableId) -> Result<(), NoMemory>
     requires table { IsTableOf store.old table }
     requires args { IsTableOf store.old args }
-    ensures put { OnOk result (store.new.heap ≡ filled table.at (meaning.frame_entries args.at) store.old.heap) }
+    ensures put { OnOk result (store.new.heap
+        ≡ filled table.at (meaning.frame_entries args.at) store.old.heap) }
     ensures later { IsLater store.old store.new }
 {
     let fields = [
@@ -95,7 +96,8 @@ fn fill_frame(store: &mut Store, table: TableId, args: TableId) -> Result<(), No
 fn fill_frame_meta(store: &mut Store, table: TableId, number: usize) -> Result<(), NoMemory>
     requires table { IsTableOf store.old table }
     requires number { number < 2 ^ 63 }
-    ensures put { OnOk result (store.new.heap ≡ filled table.at (meaning.frame_meta number) store.old.heap) }
+    ensures put { OnOk result (store.new.heap
+        ≡ filled table.at (meaning.frame_meta number) store.old.heap) }
     ensures later { IsLater store.old store.new }
 {
     set_item(store, table, 1, number as i64)?;
@@ -109,7 +111,8 @@ pub fn make_frame(store: &mut Store, scene: &Scene, number: usize) -> Result<Tab
     requires { number < 2 ^ 63 }
     ensures at { IfOk result (λ id. id.at ≡ length store.old.heap.tables + 2) }
     ensures of { IfOk result (IsTableOf store.new) }
-    ensures made { OnOk result (store.new.heap ≡ meaning.make_frame scene.now number store.old.heap) }
+    ensures made { OnOk result (store.new.heap
+        ≡ meaning.make_frame scene.now number store.old.heap) }
     ensures later { IsLater store.old store.new }
 {
     let args = new_pair(store)?;

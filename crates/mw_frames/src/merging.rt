@@ -26,7 +26,8 @@ fn insert(
     name: Bytes,
     value: Bytes,
 ) -> Result<(), NoMemory>
-    ensures put { OnOk result (args_in map.new.entries ≡ meaning.put_arg (record { name = name; value = value }) (args_in map.old.entries)) }
+    ensures put { OnOk result (args_in map.new.entries
+        ≡ meaning.put_arg (record { name = name; value = value }) (args_in map.old.entries)) }
     ensures differ { NamesDiffer (args_in map.old.entries) → NamesDiffer (args_in map.new.entries) }
 {
     match map.insert(name, value) {
@@ -41,7 +42,8 @@ fn insert_all(
     map: &mut IndexMap<Bytes, Bytes, RandomState>,
     args: &[ArgText],
 ) -> Result<(), NoMemory>
-    ensures put { OnOk result (args_in map.new.entries ≡ meaning.merge_args (args_in map.old.entries) (args_seen args.now)) }
+    ensures put { OnOk result (args_in map.new.entries
+        ≡ meaning.merge_args (args_in map.old.entries) (args_seen args.now)) }
     ensures differ { NamesDiffer (args_in map.old.entries) → NamesDiffer (args_in map.new.entries) }
 {
     'texts: for arg in args {

@@ -4,6 +4,7 @@ ghost use Rattle.lua_home.specs.LuaMeaningFrames.{args_charge};
 ghost use Rattle.mw_frames.specs.Costs.{Pays};
 ghost use Rattle.lua_basic.specs.LuaMeaningCharges.{argument_charge};
 
+use lua_basic::charges::ARGUMENT_CHARGE;
 use lua_basic::{Left, Stop, stop};
 use mw_frame::Arg;
 
@@ -24,9 +25,10 @@ pub fn pay_texts(left: &mut Left, a: &[u8], b: &[u8]) -> Result<(), Stop>
 
 /// Takes what an argument of a frame costs.
 fn pay_arg(left: &mut Left, arg: &Arg) -> Result<(), Stop>
-    ensures { Pays (argument_charge + length arg.now.name + length arg.now.value) left.old left.new result }
+    ensures { Pays (argument_charge + length arg.now.name + length arg.now.value) left.old
+        left.new result }
 {
-    pay(left, 4)?;
+    pay(left, ARGUMENT_CHARGE)?;
     pay_texts(left, arg.name.as_slice(), arg.value.as_slice())
 }
 

@@ -16,6 +16,7 @@ ghost use Rattle.lua_basic.specs.LuaMeaningScope.{Bytes};
 ghost use Rattle.lua_basic.specs.LuaMeaningTag.{entry_attribute};
 
 use crate::paying::{pay, pay_texts};
+use lua_basic::charges::ARGUMENT_CHARGE;
 use lua_basic::texts::{TextIn, text_in};
 use lua_basic::values::is_nil;
 use lua_basic::{Left, Stop, Store, TableId, Value};
@@ -36,7 +37,8 @@ fn arg_value<'b>(
     value: Value,
 ) -> Result<Option<TextIn<'b>>, NoMemory>
     requires { IsOf store.now value }
-    ensures { IfOk result (λ text. option_map text_bytes text ≡ meaning.arg_value (seen store.now.texts value)) }
+    ensures { IfOk result (λ text.
+        option_map text_bytes text ≡ meaning.arg_value (seen store.now.texts value)) }
 {
     match value {
         Value::Bool(true) => Ok(Some(TextIn::Kept(b"1"))),
@@ -60,7 +62,10 @@ fn arg_of<'b>(
 ) -> Result<Option<ArgText<'b>>, NoMemory>
     requires key { IsOf store.now key }
     requires value { IsOf store.now value }
-    ensures { IfOk result (λ arg. meaning.arg_of (values.text_in (seen store.now.texts key)) (meaning.arg_value (seen store.now.texts value)) ≡ found_arg arg) }
+    ensures { IfOk result (λ arg.
+        meaning.arg_of (values.text_in (seen store.now.texts key))
+        (meaning.arg_value (seen store.now.texts value))
+        ≡ found_arg arg) }
 {
     let Some(name) = text_in(alloc, store, key)? else {
         return Ok(None);
@@ -74,7 +79,11 @@ fn arg_of<'b>(
 /// The entry of a table at a place, before those behind it.
 pub fn entry_at(store: &Store, table: TableId, place: usize) -> Option<(Value, Value)>
     requires { IsTableOf store.now table }
-    ensures entry { MatchOption result (drop place (table_at store.now.heap table.at).entries ≡ []) (λ e. drop place (table_at store.now.heap table.at).entries ≡ seen_entry store.now.texts e ∷ drop (place + 1) (table_at store.now.heap table.at).entries) }
+    ensures entry { MatchOption result (drop place (table_at store.now.heap table.at).entries ≡ [])
+        (λ e.
+        drop place (table_at store.now.heap table.at).entries
+        ≡ seen_entry store.now.texts e
+        ∷ drop (place + 1) (table_at store.now.heap table.at).entries) }
     ensures of { IfSome result (IsEntryOf store.now) }
 {
     match store.entry(table, place) {
@@ -91,7 +100,8 @@ fn read_entry<'b>(
     entry: (Value, Value),
 ) -> Result<bool, NoMemory>
     requires { IsEntryOf store.now entry }
-    ensures { IfOk result (IsRead (args_seen args.old) (args_seen args.new) (seen_entry store.now.texts entry)) }
+    ensures { IfOk result (IsRead (args_seen args.old) (args_seen args.new)
+        (seen_entry store.now.texts entry)) }
 {
     let (key, value) = entry;
     if is_nil(value) {
@@ -111,7 +121,8 @@ pub fn read_args<'b>(
     table: TableId,
 ) -> Result<Option<List<ArgText<'b>>>, NoMemory>
     requires { IsTableOf store.now table }
-    ensures { IfOk result (λ args. meaning.read_args (table_at store.now.heap table.at).entries ≡ found_args args) }
+    ensures { IfOk result (λ args.
+        meaning.read_args (table_at store.now.heap table.at).entries ≡ found_args args) }
 {
     let mut args = List::new(alloc);
     'places: for place in 0..usize::MAX {
@@ -129,7 +140,8 @@ pub fn read_args<'b>(
 
 /// Whether a value is written as a text: a text, a number or a truth value.
 fn is_written(value: Value) -> bool
-    ensures args { (texts : Items (Items ℕ)) (name : Bytes) → result ≡ is_read (meaning.arg_of (Some name) (meaning.arg_value (seen texts value))) }
+    ensures args { (texts : Items (Items ℕ)) (name : Bytes)
+        → result ≡ is_read (meaning.arg_of (Some name) (meaning.arg_value (seen texts value))) }
 {
     match value {
         Value::Bool(true) => true,
@@ -146,7 +158,8 @@ fn is_written(value: Value) -> bool
 
 /// Whether an entry is one of names and their values: its key is a text or a number, and its value is written as a text.
 fn is_named(key: Value, value: Value) -> bool
-    ensures { (texts : Items (Items ℕ)) → result ≡ is_read (meaning.entry_arg (seen texts key, seen texts value)) }
+    ensures { (texts : Items (Items ℕ))
+        → result ≡ is_read (meaning.entry_arg (seen texts key, seen texts value)) }
 {
     match key {
         Value::Number(_) => is_written(value),
@@ -176,8 +189,10 @@ fn pass_entry(store: &Store, left: &mut Left, entry: (Value, Value)) -> Result<b
 /// Takes a step for each cleared entry of a table of names and their values, up to the first entry that is none.
 pub fn pay_passed(store: &Store, left: &mut Left, table: TableId) -> Result<(), Stop>
     requires { IsTableOf store.now table }
-    ensures args { MayPay (passed meaning.entry_arg (table_at store.now.heap table.at).entries) left.old left.new result }
-    ensures attributes { MayPay (passed entry_attribute (table_at store.now.heap table.at).entries) left.old left.new result }
+    ensures args { MayPay (passed meaning.entry_arg (table_at store.now.heap table.at).entries)
+        left.old left.new result }
+    ensures attributes { MayPay (passed entry_attribute (table_at store.now.heap table.at).entries)
+        left.old left.new result }
 {
     'places: for place in 0..usize::MAX {
         match entry_at(store, table, place) {
@@ -204,9 +219,11 @@ pub fn pay_bytes(left: &mut Left, args: &[ArgText]) -> Result<(), Stop>
 
 /// Takes what an argument of a frame costs.
 fn pay_one(left: &mut Left, arg: &ArgText) -> Result<(), Stop>
-    ensures { Pays (argument_charge + length (arg_seen arg.now).name + length (arg_seen arg.now).value) left.old left.new result }
+    ensures { Pays
+        (argument_charge + length (arg_seen arg.now).name + length (arg_seen arg.now).value)
+        left.old left.new result }
 {
-    pay(left, 4)?;
+    pay(left, ARGUMENT_CHARGE)?;
     pay_texts(left, arg.name.as_slice(), arg.value.as_slice())
 }
 

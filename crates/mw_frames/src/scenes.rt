@@ -139,8 +139,10 @@ impl Scenes {
     /// Puts another parent in the place of a frame's, and gives back the one that was there.
     fn swap_parent(&mut self, number: usize, parent: Parent) -> Parent
         requires { number < length (made self.old) }
-        ensures was { (f : SceneFrameValue) → slice_get (made self.old) number ≡ Some f → result ≡ f.parent }
-        ensures set { (f : SceneFrameValue) → slice_get (made self.old) number ≡ Some f → made self.new ≡ slice_set (made self.old) number (record f { parent = parent }) }
+        ensures was { (f : SceneFrameValue) → slice_get (made self.old) number ≡ Some f
+            → result ≡ f.parent }
+        ensures set { (f : SceneFrameValue) → slice_get (made self.old) number ≡ Some f
+            → made self.new ≡ slice_set (made self.old) number (record f { parent = parent }) }
         ensures names { self.new.names ≡ self.old.names }
     {
         std::mem::replace(&mut self.frames[number].parent, parent)
@@ -149,8 +151,14 @@ impl Scenes {
     /// The parent of a frame that was not asked for yet gets a frame of its own, with this table.
     pub fn adopt(&mut self, number: usize, table: TableId) -> Result<(), NoMemory>
         requires { number < length (made self.old) }
-        ensures ok { OnOk result ((f : SceneFrameValue) (scene : SceneValue) → slice_get (made self.old) number ≡ Some f → f.parent ≡ kin.Unmade scene → made self.new ≡ slice_set (made self.old) number (record f { parent = kin.Made (length (made self.old)) }) ++ record { scene = scene; table = table; parent = kin.Nobody } ∷ []) }
-        ensures of { (s : StoreView) → FramesOf s (made self.old) → IsTableOf s table → FramesOf s (made self.new) }
+        ensures ok { OnOk result ((f : SceneFrameValue) (scene : SceneValue)
+            → slice_get (made self.old) number ≡ Some f → f.parent ≡ kin.Unmade scene
+            → made self.new
+            ≡ slice_set (made self.old) number
+            (record f { parent = kin.Made (length (made self.old)) })
+            ++ record { scene = scene; table = table; parent = kin.Nobody } ∷ []) }
+        ensures of { (s : StoreView) → FramesOf s (made self.old) → IsTableOf s table
+            → FramesOf s (made self.new) }
         ensures names { self.new.names ≡ self.old.names }
     {
         let count = self.count();

@@ -53,7 +53,8 @@ pub fn object_text(
 
 /// A text that is paid for is given.
 fn give_kept(alloc: Global, store: &mut Store, text: &[u8]) -> Result<List<Value>, NoMemory>
-    ensures value { IfOk result (λ values. values_seen store.new.texts values ≡ kind.Text text.now ∷ []) }
+    ensures value { IfOk result (λ values.
+        values_seen store.new.texts values ≡ kind.Text text.now ∷ []) }
     ensures of { IfOk result (AllOf store.new) }
     ensures heap { store.new.heap ≡ store.old.heap }
     ensures later { IsLater store.old store.new }
@@ -71,7 +72,8 @@ pub fn give_object_text(
     id: MarkupId,
 ) -> Result<List<Value>, Stop>
     requires { IsMarkupOf store.old id }
-    ensures answer { Paid (text_of_object id.at store.old.heap) store.old left.old store.new left.new result }
+    ensures answer { Paid (text_of_object id.at store.old.heap) store.old left.old
+        store.new left.new result }
     ensures of { AnswerOf store.new result }
     ensures later { IsLater store.old store.new }
 {

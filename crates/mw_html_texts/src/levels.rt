@@ -44,7 +44,8 @@ pub fn node(store: &Store, room: usize, at: MarkupId, sheet: &mut Sheet) -> Resu
 #[tactic(auto, using(crate::proofs::Pieces::leads_on, crate::proofs::Pieces::leads_here))]
 fn inside(store: &Store, room: usize, here: &MarkupNode, sheet: &mut Sheet) -> Result<(), NoMemory>
     requires { IsNodeOf store.now here.now }
-    ensures { OnOk result (Leads sheet.old sheet.new (spec.inside (spec.node store.now.heap.markup room) (seen_node store.now.texts here.now))) }
+    ensures { OnOk result (Leads sheet.old sheet.new
+        (spec.inside (spec.node store.now.heap.markup room) (seen_node store.now.texts here.now))) }
 {
     if is_shut(store, here) {
         return Ok(());
@@ -57,7 +58,8 @@ fn inside(store: &Store, room: usize, here: &MarkupNode, sheet: &mut Sheet) -> R
 #[cycle(levels)]
 fn child(store: &Store, room: usize, child: MarkupChild, sheet: &mut Sheet) -> Result<(), NoMemory>
     requires { IsChildOf store.now child }
-    ensures { OnOk result (Leads sheet.old sheet.new (spec.child (spec.node store.now.heap.markup room) (seen_child store.now.texts child))) }
+    ensures { OnOk result (Leads sheet.old sheet.new
+        (spec.child (spec.node store.now.heap.markup room) (seen_child store.now.texts child))) }
 {
     match child {
         MarkupChild::Text(text) => sheet.put(store.bytes(text)),
@@ -75,7 +77,9 @@ fn children(
     sheet: &mut Sheet,
 ) -> Result<(), NoMemory>
     requires { AllByRecursion (IsChildOf store.now) list.now }
-    ensures { OnOk result (Leads sheet.old sheet.new (spec.children (spec.node store.now.heap.markup room) (map (seen_child store.now.texts) list.now))) }
+    ensures { OnOk result (Leads sheet.old sheet.new
+        (spec.children (spec.node store.now.heap.markup room)
+        (map (seen_child store.now.texts) list.now))) }
 {
     let mut rest = list;
     while let Some((next, more)) = split(rest) {

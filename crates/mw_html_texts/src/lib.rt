@@ -12,4 +12,4 @@ pub mod levels;
 pub mod tags;
 
 pub use giving::{ObjectText, give_object_text, object_text};
-pub use lua_strings::{Left, MarkupId, kind_of, object};
+pub use lua_strings::{Left, MarkupId, RUN_CHARGE, kind_of, object};

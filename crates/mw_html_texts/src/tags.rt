@@ -13,7 +13,8 @@ use mw_html::{NoMemory, closes_itself};
 
 fn attr(store: &Store, pair: TextPair, sheet: &mut Sheet) -> Result<(), NoMemory>
     requires { IsPairOf store.now pair }
-    ensures { OnOk result (Leads sheet.old sheet.new (given (spec.attr (seen_pair store.now.texts pair)))) }
+    ensures { OnOk result (Leads sheet.old sheet.new
+        (given (spec.attr (seen_pair store.now.texts pair)))) }
 {
     sheet.put(b" ")?;
     sheet.put(store.bytes(pair.name))?;
@@ -24,7 +25,8 @@ fn attr(store: &Store, pair: TextPair, sheet: &mut Sheet) -> Result<(), NoMemory
 
 fn attrs(store: &Store, pairs: &[TextPair], sheet: &mut Sheet) -> Result<(), NoMemory>
     requires { AllByRecursion (IsPairOf store.now) pairs.now }
-    ensures { OnOk result (Leads sheet.old sheet.new (given (flat_map spec.attr (map (seen_pair store.now.texts) pairs.now)))) }
+    ensures { OnOk result (Leads sheet.old sheet.new
+        (given (flat_map spec.attr (map (seen_pair store.now.texts) pairs.now)))) }
 {
     let mut rest = pairs;
     while let [pair, more @ ..] = rest {
@@ -36,7 +38,8 @@ fn attrs(store: &Store, pairs: &[TextPair], sheet: &mut Sheet) -> Result<(), NoM
 
 fn style(store: &Store, style: MarkupStyle, sheet: &mut Sheet) -> Result<(), NoMemory>
     requires { IsStyleOf store.now style }
-    ensures { OnOk result (Leads sheet.old sheet.new (given (spec.style (seen_style store.now.texts style)))) }
+    ensures { OnOk result (Leads sheet.old sheet.new
+        (given (spec.style (seen_style store.now.texts style)))) }
 {
     match style {
         MarkupStyle::Item(pair) => {
@@ -50,7 +53,8 @@ fn style(store: &Store, style: MarkupStyle, sheet: &mut Sheet) -> Result<(), NoM
 
 fn next_style(store: &Store, next: MarkupStyle, sheet: &mut Sheet) -> Result<(), NoMemory>
     requires { IsStyleOf store.now next }
-    ensures { OnOk result (Leads sheet.old sheet.new (given (spec.next_style (seen_style store.now.texts next)))) }
+    ensures { OnOk result (Leads sheet.old sheet.new
+        (given (spec.next_style (seen_style store.now.texts next)))) }
 {
     sheet.put(b";")?;
     style(store, next, sheet)
@@ -58,7 +62,8 @@ fn next_style(store: &Store, next: MarkupStyle, sheet: &mut Sheet) -> Result<(),
 
 fn more_styles(store: &Store, list: &[MarkupStyle], sheet: &mut Sheet) -> Result<(), NoMemory>
     requires { AllByRecursion (IsStyleOf store.now) list.now }
-    ensures { OnOk result (Leads sheet.old sheet.new (given (flat_map spec.next_style (map (seen_style store.now.texts) list.now)))) }
+    ensures { OnOk result (Leads sheet.old sheet.new
+        (given (flat_map spec.next_style (map (seen_style store.now.texts) list.now)))) }
 {
     let mut rest = list;
     while let [next, more @ ..] = rest {
@@ -70,7 +75,8 @@ fn more_styles(store: &Store, list: &[MarkupStyle], sheet: &mut Sheet) -> Result
 
 fn styles(store: &Store, list: &[MarkupStyle], sheet: &mut Sheet) -> Result<(), NoMemory>
     requires { AllByRecursion (IsStyleOf store.now) list.now }
-    ensures { OnOk result (Leads sheet.old sheet.new (given (spec.styles (map (seen_style store.now.texts) list.now)))) }
+    ensures { OnOk result (Leads sheet.old sheet.new
+        (given (spec.styles (map (seen_style store.now.texts) list.now)))) }
 {
     let [first, rest @ ..] = list else {
         return Ok(());
@@ -99,7 +105,8 @@ pub fn is_shut(store: &Store, node: &MarkupNode) -> bool
 /// Gives the tag with which a node begins, if it has one.
 pub fn opening(store: &Store, node: &MarkupNode, sheet: &mut Sheet) -> Result<(), NoMemory>
     requires { IsNodeOf store.now node.now }
-    ensures { OnOk result (Leads sheet.old sheet.new (given (spec.opening (seen_node store.now.texts node.now)))) }
+    ensures { OnOk result (Leads sheet.old sheet.new
+        (given (spec.opening (seen_node store.now.texts node.now)))) }
 {
     let name = store.bytes(node.name);
     if name.is_empty() {

@@ -25,7 +25,8 @@ fn give(
 ) -> Result<List<Value>, Stop>
     requires args { AllOf store.old args.now }
     requires names { NamesOf store.old names }
-    ensures answer { Paid (given_by which (values_seen store.old.texts args.now) store.old.heap) store.old left.old store.new left.new result }
+    ensures answer { Paid (given_by which (values_seen store.old.texts args.now) store.old.heap)
+        store.old left.old store.new left.new result }
     ensures of { AnswerOf store.new result }
     ensures later { IsLater store.old store.new }
 {
@@ -56,7 +57,8 @@ pub fn text_call(
 ) -> Result<List<Value>, Stop>
     requires args { AllOf store.old args.now }
     requires names { NamesOf store.old names }
-    ensures answer { Paid (answer_of which (values_seen store.old.texts args.now) store.old.heap) store.old left.old store.new left.new result }
+    ensures answer { Paid (answer_of which (values_seen store.old.texts args.now) store.old.heap)
+        store.old left.old store.new left.new result }
     ensures of { AnswerOf store.new result }
     ensures later { IsLater store.old store.new }
 {

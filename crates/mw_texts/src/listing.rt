@@ -26,7 +26,8 @@ use std::alloc::Global;
 fn number_at(offset: u64) -> Value
     requires { offset < 9223372036854775807 }
     ensures of { (s : StoreView) → IsOf s result }
-    ensures value { (texts : Items (Items ℕ)) → seen texts result ≡ kind.Number (pos 1 +ℤ pos offset) }
+    ensures value { (texts : Items (Items ℕ))
+        → seen texts result ≡ kind.Number (pos 1 +ℤ pos offset) }
 {
     Value::Number((offset + 1) as i64)
 }
@@ -36,7 +37,8 @@ fn value_at(store: &Store, table: TableId, offset: u64) -> Value
     requires table { IsTableOf store.now table }
     requires within { offset < 9223372036854775807 }
     ensures of { IsOf store.now result }
-    ensures value { seen store.now.texts result ≡ get (table_at store.now.heap table.at).entries (kind.Number (pos 1 +ℤ pos offset)) }
+    ensures value { seen store.now.texts result
+        ≡ get (table_at store.now.heap table.at).entries (kind.Number (pos 1 +ℤ pos offset)) }
 {
     store.get(table, number_at(offset))
 }
@@ -50,7 +52,9 @@ fn values_to(
 ) -> Result<List<Value>, NoMemory>
     requires table { IsTableOf store.now table }
     requires within { count ≤ 9223372036854775807 }
-    ensures values { IfOk result (λ values. values_seen store.now.texts values ≡ entries_from count (pos 1) (table_at store.now.heap table.at).entries) }
+    ensures values { IfOk result (λ values.
+        values_seen store.now.texts values
+        ≡ entries_from count (pos 1) (table_at store.now.heap table.at).entries) }
     ensures of { IfOk result (AllOf store.now) }
 {
     let mut values = List::new(alloc);
@@ -73,7 +77,9 @@ fn border_of(store: &Store, table: TableId) -> u64
 /// The values of a table at the numbers from 1 to its border.
 fn list_values(alloc: Global, store: &Store, table: TableId) -> Result<List<Value>, NoMemory>
     requires { IsTableOf store.now table }
-    ensures values { IfOk result (λ values. values_seen store.now.texts values ≡ meaning.list_values (table_at store.now.heap table.at).entries) }
+    ensures values { IfOk result (λ values.
+        values_seen store.now.texts values
+        ≡ meaning.list_values (table_at store.now.heap table.at).entries) }
     ensures of { IfOk result (AllOf store.now) }
 {
     values_to(alloc, store, table, border_of(store, table))
@@ -95,9 +101,11 @@ fn the_items<'b>(
     values: &[Value],
 ) -> Result<List<TextIn<'b>>, Stop>
     requires { AllOf store.old values.now }
-    ensures found { IfOk result (λ items. meaning.items_of (values_seen store.old.texts values.now) ≡ Ok (map text_bytes items)) }
+    ensures found { IfOk result (λ items.
+        meaning.items_of (values_seen store.old.texts values.now) ≡ Ok (map text_bytes items)) }
     ensures same { OnOk result (store.new ≡ store.old) }
-    ensures refused { IfErr result (Refuses (meaning.items_of (values_seen store.old.texts values.now)) store.old store.new) }
+    ensures refused { IfErr result (Refuses
+        (meaning.items_of (values_seen store.old.texts values.now)) store.old store.new) }
     ensures of { IfErr result (StopOf store.new) }
     ensures later { IsLater store.old store.new }
 {
@@ -166,7 +174,8 @@ fn joined_items(
     separator: &[u8],
     conjunction: &[u8],
 ) -> Result<Vec<u8>, NoMemory>
-    ensures { IfOk result (λ text. text.items ≡ joined separator.now conjunction.now (map text_bytes items.now)) }
+    ensures { IfOk result (λ text.
+        text.items ≡ joined separator.now conjunction.now (map text_bytes items.now)) }
 {
     let copies = copy_items(alloc, items)?;
     let text = joined_text(alloc, copies.as_slice(), separator, conjunction)?;
@@ -182,7 +191,10 @@ fn give_joined(
     separator: &[u8],
     conjunction: &[u8],
 ) -> Result<List<Value>, Stop>
-    ensures answer { Paid (gives_text store.old.heap (joined separator.now conjunction.now (map text_bytes items.now))) store.old left.old store.new left.new result }
+    ensures answer { Paid
+        (gives_text store.old.heap
+        (joined separator.now conjunction.now (map text_bytes items.now)))
+        store.old left.old store.new left.new result }
     ensures of { AnswerOf store.new result }
     ensures later { IsLater store.old store.new }
 {
@@ -202,7 +214,9 @@ pub fn list_to_text(
     args: &[Value],
 ) -> Result<List<Value>, Stop>
     requires { AllOf store.old args.now }
-    ensures answer { Paid (meaning.list_to_text (values_seen store.old.texts args.now) store.old.heap) store.old left.old store.new left.new result }
+    ensures answer { Paid
+        (meaning.list_to_text (values_seen store.old.texts args.now) store.old.heap) store.old
+        left.old store.new left.new result }
     ensures of { AnswerOf store.new result }
     ensures later { IsLater store.old store.new }
 {

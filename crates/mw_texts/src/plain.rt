@@ -25,7 +25,8 @@ fn give_decoded(
     left: &mut Left,
     s: &[u8],
 ) -> Result<List<Value>, Stop>
-    ensures answer { Paid (gives_text store.old.heap (decoded s.now)) store.old left.old store.new left.new result }
+    ensures answer { Paid (gives_text store.old.heap (decoded s.now)) store.old left.old
+        store.new left.new result }
     ensures of { AnswerOf store.new result }
     ensures later { IsLater store.old store.new }
 {
@@ -43,7 +44,8 @@ pub fn decode(
     args: &[Value],
 ) -> Result<List<Value>, Stop>
     requires { AllOf store.old args.now }
-    ensures answer { Paid (meaning.decode (values_seen store.old.texts args.now) store.old.heap) store.old left.old store.new left.new result }
+    ensures answer { Paid (meaning.decode (values_seen store.old.texts args.now) store.old.heap)
+        store.old left.old store.new left.new result }
     ensures of { AnswerOf store.new result }
     ensures later { IsLater store.old store.new }
 {
@@ -58,7 +60,8 @@ fn give_nowiki(
     left: &mut Left,
     s: &[u8],
 ) -> Result<List<Value>, Stop>
-    ensures answer { Paid (gives_text store.old.heap (nowiki_of s.now)) store.old left.old store.new left.new result }
+    ensures answer { Paid (gives_text store.old.heap (nowiki_of s.now)) store.old left.old
+        store.new left.new result }
     ensures of { AnswerOf store.new result }
     ensures later { IsLater store.old store.new }
 {
@@ -76,7 +79,8 @@ pub fn nowiki(
     args: &[Value],
 ) -> Result<List<Value>, Stop>
     requires { AllOf store.old args.now }
-    ensures answer { Paid (meaning.nowiki (values_seen store.old.texts args.now) store.old.heap) store.old left.old store.new left.new result }
+    ensures answer { Paid (meaning.nowiki (values_seen store.old.texts args.now) store.old.heap)
+        store.old left.old store.new left.new result }
     ensures of { AnswerOf store.new result }
     ensures later { IsLater store.old store.new }
 {
@@ -88,7 +92,8 @@ pub fn nowiki(
 fn shortened<'t>(s: &'t [u8], n: i64, ellipsis: &'t [u8], adjust: bool) -> (&'t [u8], &'t [u8])
     requires text { IsUtf8 s.now }
     requires ellipsis { IsUtf8 ellipsis.now }
-    ensures { result.0.now ++ result.1.now ≡ encode_utf8_all (truncated (chars s.now) n (chars ellipsis.now) adjust) }
+    ensures { result.0.now ++ result.1.now
+        ≡ encode_utf8_all (truncated (chars s.now) n (chars ellipsis.now) adjust) }
 {
     let count = count_points(s);
     if count as u64 <= n.unsigned_abs() {
@@ -123,7 +128,10 @@ fn give_truncated(
 ) -> Result<List<Value>, Stop>
     requires text { IsUtf8 s.now }
     requires ellipsis { IsUtf8 ellipsis.now }
-    ensures answer { Paid (gives_text store.old.heap (encode_utf8_all (truncated (chars s.now) n (chars ellipsis.now) adjust))) store.old left.old store.new left.new result }
+    ensures answer { Paid
+        (gives_text store.old.heap
+        (encode_utf8_all (truncated (chars s.now) n (chars ellipsis.now) adjust)))
+        store.old left.old store.new left.new result }
     ensures of { AnswerOf store.new result }
     ensures later { IsLater store.old store.new }
 {
@@ -143,7 +151,8 @@ pub fn truncate(
     args: &[Value],
 ) -> Result<List<Value>, Stop>
     requires { AllOf store.old args.now }
-    ensures answer { Paid (meaning.truncate (values_seen store.old.texts args.now) store.old.heap) store.old left.old store.new left.new result }
+    ensures answer { Paid (meaning.truncate (values_seen store.old.texts args.now) store.old.heap)
+        store.old left.old store.new left.new result }
     ensures of { AnswerOf store.new result }
     ensures later { IsLater store.old store.new }
 {

@@ -24,7 +24,9 @@ fn give_answer(
     left: &mut Left,
     answer: &TextAnswer,
 ) -> Result<List<Value>, Stop>
-    ensures answer { (tries : ℕ) (text : Bytes) → IsText left.old.steps tries text answer.now → Paid (meaning.gives_tried store.old.heap tries text) store.old left.old store.new left.new result }
+    ensures answer { (tries : ℕ) (text : Bytes) → IsText left.old.steps tries text answer.now
+        → Paid (meaning.gives_tried store.old.heap tries text) store.old left.old
+        store.new left.new result }
     ensures of { AnswerOf store.new result }
     ensures later { IsLater store.old store.new }
 {
@@ -66,7 +68,10 @@ fn trim_by(
     set: Option<&[u8]>,
 ) -> Result<List<Value>, Stop>
     requires { IsUtf8 s.now }
-    ensures answer { Paid (meaning.by_set store.old.heap (meaning.trims store.old.heap s.now) (chosen_set (option_map (λ bytes. bytes.now) set.entry))) store.old left.old store.new left.new result }
+    ensures answer { Paid
+        (meaning.by_set store.old.heap (meaning.trims store.old.heap s.now)
+        (chosen_set (option_map (λ bytes. bytes.now) set.entry)))
+        store.old left.old store.new left.new result }
     ensures of { AnswerOf store.new result }
     ensures later { IsLater store.old store.new }
 {
@@ -85,7 +90,10 @@ fn encode_by(
     set: Option<&[u8]>,
 ) -> Result<List<Value>, Stop>
     requires { IsUtf8 s.now }
-    ensures answer { Paid (meaning.by_set store.old.heap (meaning.encodes store.old.heap s.now) (chosen_set (option_map (λ bytes. bytes.now) set.entry))) store.old left.old store.new left.new result }
+    ensures answer { Paid
+        (meaning.by_set store.old.heap (meaning.encodes store.old.heap s.now)
+        (chosen_set (option_map (λ bytes. bytes.now) set.entry)))
+        store.old left.old store.new left.new result }
     ensures of { AnswerOf store.new result }
     ensures later { IsLater store.old store.new }
 {
@@ -104,7 +112,11 @@ fn trim_with(
     set: &Option<TextIn>,
 ) -> Result<List<Value>, Stop>
     requires { IsUtf8 s.now }
-    ensures answer { Paid (with_charge (meaning.set_charge (option_map text_bytes set.now)) (meaning.by_set store.old.heap (meaning.trims store.old.heap s.now) (chosen_set (option_map text_bytes set.now)))) store.old left.old store.new left.new result }
+    ensures answer { Paid
+        (with_charge (meaning.set_charge (option_map text_bytes set.now))
+        (meaning.by_set store.old.heap (meaning.trims store.old.heap s.now)
+        (chosen_set (option_map text_bytes set.now))))
+        store.old left.old store.new left.new result }
     ensures of { AnswerOf store.new result }
     ensures later { IsLater store.old store.new }
 {
@@ -121,7 +133,11 @@ fn encode_with(
     set: &Option<TextIn>,
 ) -> Result<List<Value>, Stop>
     requires { IsUtf8 s.now }
-    ensures answer { Paid (with_charge (meaning.set_charge (option_map text_bytes set.now)) (meaning.by_set store.old.heap (meaning.encodes store.old.heap s.now) (chosen_set (option_map text_bytes set.now)))) store.old left.old store.new left.new result }
+    ensures answer { Paid
+        (with_charge (meaning.set_charge (option_map text_bytes set.now))
+        (meaning.by_set store.old.heap (meaning.encodes store.old.heap s.now)
+        (chosen_set (option_map text_bytes set.now))))
+        store.old left.old store.new left.new result }
     ensures of { AnswerOf store.new result }
     ensures later { IsLater store.old store.new }
 {
@@ -137,7 +153,8 @@ pub fn trim(
     args: &[Value],
 ) -> Result<List<Value>, Stop>
     requires { AllOf store.old args.now }
-    ensures answer { Paid (meaning.trim (values_seen store.old.texts args.now) store.old.heap) store.old left.old store.new left.new result }
+    ensures answer { Paid (meaning.trim (values_seen store.old.texts args.now) store.old.heap)
+        store.old left.old store.new left.new result }
     ensures of { AnswerOf store.new result }
     ensures later { IsLater store.old store.new }
 {
@@ -155,7 +172,8 @@ pub fn encode(
     args: &[Value],
 ) -> Result<List<Value>, Stop>
     requires { AllOf store.old args.now }
-    ensures answer { Paid (meaning.encode (values_seen store.old.texts args.now) store.old.heap) store.old left.old store.new left.new result }
+    ensures answer { Paid (meaning.encode (values_seen store.old.texts args.now) store.old.heap)
+        store.old left.old store.new left.new result }
     ensures of { AnswerOf store.new result }
     ensures later { IsLater store.old store.new }
 {

@@ -12,14 +12,16 @@ use lua_string::List;
 use mw_text::{Bytes, PartsAnswer};
 use mw_ustrings::arguments::{refuse_pattern, utf8_text};
 use mw_ustrings::giving::spend;
-use mw_ustrings::{Left, Stop, Store, Value, is_true, pay, rest, second, single};
+use mw_ustrings::{
+    ENTRY_CHARGE, Left, Stop, Store, TABLE_CHARGE, Value, is_true, pay, rest, second, single,
+};
 use std::alloc::Global;
 
 /// Takes what a part costs: its entry and its bytes.
 fn pay_part(left: &mut Left, part: &[u8]) -> Result<(), Stop>
     ensures { Pays (entry_charge + length part.now) left.old left.new result }
 {
-    pay(left, 4)?;
+    pay(left, ENTRY_CHARGE)?;
     pay(left, part.len() as u64)
 }
 
@@ -43,12 +45,13 @@ fn give_parts(
     parts: &[Bytes],
     tries: u64,
 ) -> Result<List<Value>, Stop>
-    ensures answer { Paid (meaning.gives_parts store.old.heap tries parts.now) store.old left.old store.new left.new result }
+    ensures answer { Paid (meaning.gives_parts store.old.heap tries parts.now) store.old left.old
+        store.new left.new result }
     ensures of { AnswerOf store.new result }
     ensures later { IsLater store.old store.new }
 {
     pay(left, tries)?;
-    pay(left, 8)?;
+    pay(left, TABLE_CHARGE)?;
     pay_parts(left, parts)?;
     let table = text_table(store, parts)?;
     let values = single(alloc, Value::Table(table))?;
@@ -66,7 +69,8 @@ fn split_paid(
 ) -> Result<List<Value>, Stop>
     requires text { IsUtf8 s.now }
     requires pattern { IsUtf8 pattern.now }
-    ensures answer { Paid (meaning.splits store.old.heap s.now (sought_by plain pattern.now)) store.old left.old store.new left.new result }
+    ensures answer { Paid (meaning.splits store.old.heap s.now (sought_by plain pattern.now))
+        store.old left.old store.new left.new result }
     ensures of { AnswerOf store.new result }
     ensures later { IsLater store.old store.new }
 {
@@ -100,7 +104,8 @@ fn split_by(
 ) -> Result<List<Value>, Stop>
     requires text { IsUtf8 s.now }
     requires pattern { IsUtf8 pattern.now }
-    ensures answer { Paid (meaning.splits_by store.old.heap plain s.now pattern.now) store.old left.old store.new left.new result }
+    ensures answer { Paid (meaning.splits_by store.old.heap plain s.now pattern.now) store.old
+        left.old store.new left.new result }
     ensures of { AnswerOf store.new result }
     ensures later { IsLater store.old store.new }
 {
@@ -117,7 +122,8 @@ pub fn split(
     args: &[Value],
 ) -> Result<List<Value>, Stop>
     requires { AllOf store.old args.now }
-    ensures answer { Paid (meaning.split (values_seen store.old.texts args.now) store.old.heap) store.old left.old store.new left.new result }
+    ensures answer { Paid (meaning.split (values_seen store.old.texts args.now) store.old.heap)
+        store.old left.old store.new left.new result }
     ensures of { AnswerOf store.new result }
     ensures later { IsLater store.old store.new }
 {

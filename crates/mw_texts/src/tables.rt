@@ -15,7 +15,8 @@ use mw_ustrings::{Store, TableId, Value};
 /// The text at a number of a table is set.
 fn set_text(store: &mut Store, table: TableId, at: usize, text: &[u8]) -> Result<(), NoMemory>
     requires { IsTableOf store.old table }
-    ensures set { OnOk result (store.new.heap ≡ set_in store.old.heap table.at (kind.Number (pos at)) (kind.Text text.now)) }
+    ensures set { OnOk result (store.new.heap
+        ≡ set_in store.old.heap table.at (kind.Number (pos at)) (kind.Text text.now)) }
     ensures later { IsLater store.old store.new }
 {
     let key = number(at)?;
@@ -48,7 +49,8 @@ pub fn split_texts(texts: &[Bytes]) -> Option<(&Bytes, &[Bytes])>
 /// Texts are set one after another.
 fn fill(store: &mut Store, table: TableId, texts: &[Bytes]) -> Result<(), NoMemory>
     requires { IsTableOf store.old table }
-    ensures filled { OnOk result (store.new.heap ≡ filled table.at (meaning.text_entries 1 texts.now) store.old.heap) }
+    ensures filled { OnOk result (store.new.heap
+        ≡ filled table.at (meaning.text_entries 1 texts.now) store.old.heap) }
     ensures later { IsLater store.old store.new }
 {
     let mut at = 1;
@@ -65,7 +67,8 @@ fn fill(store: &mut Store, table: TableId, texts: &[Bytes]) -> Result<(), NoMemo
 pub fn text_table(store: &mut Store, texts: &[Bytes]) -> Result<TableId, NoMemory>
     ensures of { IfOk result (IsTableOf store.new) }
     ensures id { IfOk result (λ table. table.at ≡ length store.old.heap.tables) }
-    ensures made { OnOk result (store.new.heap ≡ with_table store.old.heap (meaning.text_entries 1 texts.now) kind.Nil) }
+    ensures made { OnOk result (store.new.heap
+        ≡ with_table store.old.heap (meaning.text_entries 1 texts.now) kind.Nil) }
     ensures later { IsLater store.old store.new }
 {
     let table = store.new_table()?;

@@ -16,7 +16,9 @@ use std::alloc::Global;
 /// The first of the arguments, where it is a table, which then has the parts as fields.
 fn table_in(given: &[Value]) -> Option<TableId>
     ensures of { (s : StoreView) → AllOf s given.now → IfSome result (IsTableOf s) }
-    ensures split { (texts : Items (Items ℕ)) (h : Heap Proc) → meaning.tag_parts h (values_seen texts given.now) ≡ found_parts h (values_seen texts given.now) result }
+    ensures split { (texts : Items (Items ℕ)) (h : Heap Proc)
+        → meaning.tag_parts h (values_seen texts given.now)
+        ≡ found_parts h (values_seen texts given.now) result }
 {
     match given {
         [Value::Table(id), ..] => Some(*id),
@@ -35,7 +37,8 @@ pub fn tag(
 ) -> Result<List<Value>, Stop>
     requires given { AllOf store.old args.now }
     requires names { NamesOf store.old names }
-    ensures answer { Paid (meaning.tag (values_seen store.old.texts args.now) store.old.heap) store.old left.old store.new left.new result }
+    ensures answer { Paid (meaning.tag (values_seen store.old.texts args.now) store.old.heap)
+        store.old left.old store.new left.new result }
     ensures of { AnswerOf store.new result }
     ensures later { IsLater store.old store.new }
 {

@@ -32,10 +32,12 @@ fn in_utf8<'b>(
     function: &[u8],
     text: TextIn<'b>,
 ) -> Result<TextIn<'b>, Stop>
-    ensures found { IfOk result (λ made. meaning.in_utf8 n function.now (Ok (text_bytes text.entry)) ≡ Ok (text_bytes made)) }
+    ensures found { IfOk result (λ made.
+        meaning.in_utf8 n function.now (Ok (text_bytes text.entry)) ≡ Ok (text_bytes made)) }
     ensures utf8 { IfOk result (λ made. IsUtf8 (text_bytes made)) }
     ensures same { OnOk result (store.new ≡ store.old) }
-    ensures refused { IfErr result (Refuses (meaning.in_utf8 n function.now (Ok (text_bytes text.entry))) store.old store.new) }
+    ensures refused { IfErr result (Refuses
+        (meaning.in_utf8 n function.now (Ok (text_bytes text.entry))) store.old store.new) }
     ensures of { IfErr result (StopOf store.new) }
     ensures later { IsLater store.old store.new }
 {
@@ -54,10 +56,14 @@ pub fn utf8_text<'b>(
     given: &[Value],
 ) -> Result<TextIn<'b>, Stop>
     requires { AllOf store.old given.now }
-    ensures found { IfOk result (λ text. meaning.utf8_text n function.now (values_seen store.old.texts given.now) ≡ Ok (text_bytes text)) }
+    ensures found { IfOk result (λ text.
+        meaning.utf8_text n function.now (values_seen store.old.texts given.now)
+        ≡ Ok (text_bytes text)) }
     ensures utf8 { IfOk result (λ text. IsUtf8 (text_bytes text)) }
     ensures same { OnOk result (store.new ≡ store.old) }
-    ensures refused { IfErr result (Refuses (meaning.utf8_text n function.now (values_seen store.old.texts given.now)) store.old store.new) }
+    ensures refused { IfErr result (Refuses
+        (meaning.utf8_text n function.now (values_seen store.old.texts given.now)) store.old
+        store.new) }
     ensures of { IfErr result (StopOf store.new) }
     ensures later { IsLater store.old store.new }
 {
@@ -77,9 +83,13 @@ pub fn text_or<'b>(
     given: &[Value],
 ) -> Result<TextIn<'b>, Stop>
     requires { AllOf store.old given.now }
-    ensures found { IfOk result (λ text. checks.text_or default.now n function.now (values_seen store.old.texts given.now) ≡ Ok (text_bytes text)) }
+    ensures found { IfOk result (λ text.
+        checks.text_or default.now n function.now (values_seen store.old.texts given.now)
+        ≡ Ok (text_bytes text)) }
     ensures same { OnOk result (store.new ≡ store.old) }
-    ensures refused { IfErr result (Refuses (checks.text_or default.now n function.now (values_seen store.old.texts given.now)) store.old store.new) }
+    ensures refused { IfErr result (Refuses
+        (checks.text_or default.now n function.now (values_seen store.old.texts given.now))
+        store.old store.new) }
     ensures of { IfErr result (StopOf store.new) }
     ensures later { IsLater store.old store.new }
 {
@@ -99,10 +109,14 @@ pub fn utf8_text_or<'b>(
     given: &[Value],
 ) -> Result<TextIn<'b>, Stop>
     requires { AllOf store.old given.now }
-    ensures found { IfOk result (λ text. meaning.utf8_text_or default.now n function.now (values_seen store.old.texts given.now) ≡ Ok (text_bytes text)) }
+    ensures found { IfOk result (λ text.
+        meaning.utf8_text_or default.now n function.now (values_seen store.old.texts given.now)
+        ≡ Ok (text_bytes text)) }
     ensures utf8 { IfOk result (λ text. IsUtf8 (text_bytes text)) }
     ensures same { OnOk result (store.new ≡ store.old) }
-    ensures refused { IfErr result (Refuses (meaning.utf8_text_or default.now n function.now (values_seen store.old.texts given.now)) store.old store.new) }
+    ensures refused { IfErr result (Refuses
+        (meaning.utf8_text_or default.now n function.now (values_seen store.old.texts given.now))
+        store.old store.new) }
     ensures of { IfErr result (StopOf store.new) }
     ensures later { IsLater store.old store.new }
 {
@@ -121,9 +135,13 @@ pub fn utf8_text_if_any<'b>(
     given: &[Value],
 ) -> Result<Option<TextIn<'b>>, Stop>
     requires { AllOf store.old given.now }
-    ensures found { IfOk result (λ text. meaning.utf8_text_if_any n function.now (values_seen store.old.texts given.now) ≡ Ok (option_map text_bytes text)) }
+    ensures found { IfOk result (λ text.
+        meaning.utf8_text_if_any n function.now (values_seen store.old.texts given.now)
+        ≡ Ok (option_map text_bytes text)) }
     ensures same { OnOk result (store.new ≡ store.old) }
-    ensures refused { IfErr result (Refuses (meaning.utf8_text_if_any n function.now (values_seen store.old.texts given.now)) store.old store.new) }
+    ensures refused { IfErr result (Refuses
+        (meaning.utf8_text_if_any n function.now (values_seen store.old.texts given.now)) store.old
+        store.new) }
     ensures of { IfErr result (StopOf store.new) }
     ensures later { IsLater store.old store.new }
 {
@@ -156,7 +174,8 @@ fn bad_argument(alloc: Global, n: usize, function: &[u8], why: &[u8]) -> Result<
 /// An argument with any number is bad.
 pub fn refuse_at(alloc: Global, store: &mut Store, n: usize, function: &[u8], why: &[u8]) -> Stop
     requires { n < 2 ^ 63 }
-    ensures raises { Stops (fails store.old.heap (messages.bad_argument n function.now why.now)) store.new result }
+    ensures raises { Stops (fails store.old.heap (messages.bad_argument n function.now why.now))
+        store.new result }
     ensures of { StopOf store.new result }
     ensures later { IsLater store.old store.new }
 {
@@ -176,7 +195,11 @@ pub fn refuse_kind_at(
     given: &[Value],
 ) -> Stop
     requires { n < 2 ^ 63 }
-    ensures raises { Stops (fails store.old.heap (messages.bad_argument n function.now (messages.expected wanted.now (values_seen store.old.texts given.now)))) store.new result }
+    ensures raises { Stops
+        (fails store.old.heap
+        (messages.bad_argument n function.now
+        (messages.expected wanted.now (values_seen store.old.texts given.now))))
+        store.new result }
     ensures of { StopOf store.new result }
     ensures later { IsLater store.old store.new }
 {

@@ -23,7 +23,8 @@ fn give(
     args: &[Value],
 ) -> Result<List<Value>, Stop>
     requires { AllOf store.old args.now }
-    ensures answer { Paid (given_by which (values_seen store.old.texts args.now) store.old.heap) store.old left.old store.new left.new result }
+    ensures answer { Paid (given_by which (values_seen store.old.texts args.now) store.old.heap)
+        store.old left.old store.new left.new result }
     ensures of { AnswerOf store.new result }
     ensures later { IsLater store.old store.new }
 {
@@ -56,7 +57,8 @@ pub fn ustring_call(
     args: &[Value],
 ) -> Result<List<Value>, Stop>
     requires { AllOf store.old args.now }
-    ensures answer { Paid (answer_of which (values_seen store.old.texts args.now) store.old.heap) store.old left.old store.new left.new result }
+    ensures answer { Paid (answer_of which (values_seen store.old.texts args.now) store.old.heap)
+        store.old left.old store.new left.new result }
     ensures of { AnswerOf store.new result }
     ensures later { IsLater store.old store.new }
 {

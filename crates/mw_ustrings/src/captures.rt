@@ -36,7 +36,8 @@ fn place_value(s: &[u8], at: usize) -> Result<Value, NoMemory>
     requires text { IsUtf8 s.now }
     requires place { IsCharBoundary s.now at }
     ensures of { IfOk result (λ v. (t : StoreView) → IsOf t v) }
-    ensures value { IfOk result (λ v. (texts : Items (Items ℕ)) → seen texts v ≡ meaning.place_value s.now at) }
+    ensures value { IfOk result (λ v.
+        (texts : Items (Items ℕ)) → seen texts v ≡ meaning.place_value s.now at) }
 {
     match point_place(s, at).checked_add(1) {
         Some(place) => number(place),
@@ -49,7 +50,8 @@ fn last_value(s: &[u8], at: usize) -> Result<Value, NoMemory>
     requires text { IsUtf8 s.now }
     requires place { IsCharBoundary s.now at }
     ensures of { IfOk result (λ v. (t : StoreView) → IsOf t v) }
-    ensures value { IfOk result (λ v. (texts : Items (Items ℕ)) → seen texts v ≡ meaning.last_value s.now at) }
+    ensures value { IfOk result (λ v.
+        (texts : Items (Items ℕ)) → seen texts v ≡ meaning.last_value s.now at) }
 {
     number(point_place(s, at))
 }
@@ -59,7 +61,8 @@ fn capture_value(store: &mut Store, s: &[u8], capture: Capture) -> Result<Value,
     requires text { IsUtf8 s.now }
     requires place { IsCaptureAt (IsCharBoundary s.now) capture }
     ensures of { IfOk result (IsOf store.new) }
-    ensures value { IfOk result (λ v. seen store.new.texts v ≡ meaning.capture_value s.now capture) }
+    ensures value { IfOk result (λ v.
+        seen store.new.texts v ≡ meaning.capture_value s.now capture) }
     ensures heap { store.new.heap ≡ store.old.heap }
     ensures later { IsLater store.old store.new }
 {
@@ -92,7 +95,9 @@ fn add_captures(
     requires text { IsUtf8 s.now }
     requires places { AllByRecursion (IsCaptureAt (IsCharBoundary s.now)) captures.now }
     ensures of { OnOk result (AllOf store.new values.new) }
-    ensures values { OnOk result (values_seen store.new.texts values.new ≡ values_seen store.old.texts values.old ++ map (meaning.capture_value s.now) captures.now) }
+    ensures values { OnOk result (values_seen store.new.texts values.new
+        ≡ values_seen store.old.texts values.old
+        ++ map (meaning.capture_value s.now) captures.now) }
     ensures heap { store.new.heap ≡ store.old.heap }
     ensures later { IsLater store.old store.new }
 {
@@ -116,7 +121,10 @@ pub fn match_places(
     requires start { IsCharBoundary s.now start }
     requires end { IsCharBoundary s.now end }
     ensures of { IfOk result (λ values. (t : StoreView) → AllOf t values) }
-    ensures values { IfOk result (λ values. (texts : Items (Items ℕ)) → values_seen texts values ≡ meaning.place_value s.now start ∷ meaning.last_value s.now end ∷ []) }
+    ensures values { IfOk result (λ values.
+        (texts : Items (Items ℕ))
+        → values_seen texts values
+        ≡ meaning.place_value s.now start ∷ meaning.last_value s.now end ∷ []) }
 {
     let first = place_value(s, start)?;
     let last = last_value(s, end)?;
@@ -136,7 +144,8 @@ pub fn find_values(
     requires end { IsCharBoundary s.now found.now.end }
     requires captures { AllByRecursion (IsCaptureAt (IsCharBoundary s.now)) found.now.captures }
     ensures of { IfOk result (AllOf store.new) }
-    ensures values { IfOk result (λ values. values_seen store.new.texts values ≡ meaning.find_values s.now found.now) }
+    ensures values { IfOk result (λ values.
+        values_seen store.new.texts values ≡ meaning.find_values s.now found.now) }
     ensures heap { store.new.heap ≡ store.old.heap }
     ensures later { IsLater store.old store.new }
 {
@@ -155,7 +164,8 @@ pub fn match_values(
     requires text { IsUtf8 s.now }
     requires captures { AllByRecursion (IsCaptureAt (IsCharBoundary s.now)) found.now.captures }
     ensures of { IfOk result (AllOf store.new) }
-    ensures values { IfOk result (λ values. values_seen store.new.texts values ≡ meaning.match_values s.now found.now) }
+    ensures values { IfOk result (λ values.
+        values_seen store.new.texts values ≡ meaning.match_values s.now found.now) }
     ensures heap { store.new.heap ≡ store.old.heap }
     ensures later { IsLater store.old store.new }
 {

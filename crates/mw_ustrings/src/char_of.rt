@@ -20,7 +20,8 @@ use std::alloc::Global;
 
 /// The code point with a number, if there is one that UTF-8 can write.
 fn point(code: i64) -> Option<char>
-    ensures { MatchOption result (text_of_codes (code ∷ []) ≡ None) (λ c. text_of_codes (code ∷ []) ≡ Some (encode_utf8 c)) }
+    ensures { MatchOption result (text_of_codes (code ∷ []) ≡ None) (λ c.
+        text_of_codes (code ∷ []) ≡ Some (encode_utf8 c)) }
 {
     match u32::try_from(code) {
         Ok(code) => char::from_u32(code),
@@ -40,9 +41,13 @@ fn values_from(values: &[Value], at: usize) -> &[Value]
 fn a_point(alloc: Global, store: &mut Store, n: usize, given: &[Value]) -> Result<char, Stop>
     requires of { AllOf store.old given.now }
     requires number { n < 2 ^ 63 }
-    ensures found { IfOk result (λ c. meaning.point_text n (a_number n (codes "char") (values_seen store.old.texts given.now)) ≡ Ok (encode_utf8 c)) }
+    ensures found { IfOk result (λ c.
+        meaning.point_text n (a_number n (codes "char") (values_seen store.old.texts given.now))
+        ≡ Ok (encode_utf8 c)) }
     ensures same { OnOk result (store.new ≡ store.old) }
-    ensures refused { IfErr result (Refuses (meaning.point_text n (a_number n (codes "char") (values_seen store.old.texts given.now))) store.old store.new) }
+    ensures refused { IfErr result (Refuses
+        (meaning.point_text n (a_number n (codes "char") (values_seen store.old.texts given.now)))
+        store.old store.new) }
     ensures of { IfErr result (StopOf store.new) }
     ensures later { IsLater store.old store.new }
 {
@@ -58,9 +63,11 @@ fn a_point(alloc: Global, store: &mut Store, n: usize, given: &[Value]) -> Resul
 /// Refuses arguments of which one is no number of a code point.
 fn check_points(alloc: Global, store: &mut Store, args: &[Value]) -> Result<(), Stop>
     requires { AllOf store.old args.now }
-    ensures found { OnOk result (meaning.points_text 1 (values_seen store.old.texts args.now) ≡ Ok (points_bytes (values_seen store.old.texts args.now))) }
+    ensures found { OnOk result (meaning.points_text 1 (values_seen store.old.texts args.now)
+        ≡ Ok (points_bytes (values_seen store.old.texts args.now))) }
     ensures same { OnOk result (store.new ≡ store.old) }
-    ensures refused { IfErr result (Refuses (meaning.points_text 1 (values_seen store.old.texts args.now)) store.old store.new) }
+    ensures refused { IfErr result (Refuses
+        (meaning.points_text 1 (values_seen store.old.texts args.now)) store.old store.new) }
     ensures of { IfErr result (StopOf store.new) }
     ensures later { IsLater store.old store.new }
 {
@@ -86,7 +93,8 @@ fn split_values(values: &[Value]) -> Option<(Value, &[Value])>
 /// The code point whose number a value is, if it is one.
 fn point_in(store: &Store, value: Value) -> Option<char>
     requires { IsOf store.now value }
-    ensures { MatchOption result (point_bytes (seen store.now.texts value) ≡ []) (λ c. point_bytes (seen store.now.texts value) ≡ encode_utf8 c) }
+    ensures { MatchOption result (point_bytes (seen store.now.texts value) ≡ []) (λ c.
+        point_bytes (seen store.now.texts value) ≡ encode_utf8 c) }
 {
     match number_in(store, value) {
         Some(code) => point(code),
@@ -108,7 +116,8 @@ fn point_cost(store: &Store, value: Value) -> u64
 /// Takes a step for each byte of the code points whose numbers the values are.
 fn pay_points(store: &Store, left: &mut Left, values: &[Value]) -> Result<(), Stop>
     requires { AllOf store.now values.now }
-    ensures { Pays (length (points_bytes (values_seen store.now.texts values.now))) left.old left.new result }
+    ensures { Pays (length (points_bytes (values_seen store.now.texts values.now))) left.old
+        left.new result }
 {
     let mut rest = values;
     'each: while let Some((value, more)) = split_values(rest) {
@@ -121,7 +130,8 @@ fn pay_points(store: &Store, left: &mut Left, values: &[Value]) -> Result<(), St
 /// Adds the code point of a value.
 fn put_value(made: &mut Vec<u8>, store: &Store, value: Value) -> Result<(), NoMemory>
     requires { IsOf store.now value }
-    ensures { OnOk result (made.new.items ≡ made.old.items ++ point_bytes (seen store.now.texts value)) }
+    ensures { OnOk result (made.new.items
+        ≡ made.old.items ++ point_bytes (seen store.now.texts value)) }
 {
     match point_in(store, value) {
         Some(point) => put_point(made, point),
@@ -132,7 +142,8 @@ fn put_value(made: &mut Vec<u8>, store: &Store, value: Value) -> Result<(), NoMe
 /// The text of the code points whose numbers the values are.
 fn the_text(alloc: Global, store: &Store, values: &[Value]) -> Result<Vec<u8>, NoMemory>
     requires { AllOf store.now values.now }
-    ensures { IfOk result (λ made. made.items ≡ points_bytes (values_seen store.now.texts values.now)) }
+    ensures { IfOk result (λ made.
+        made.items ≡ points_bytes (values_seen store.now.texts values.now)) }
 {
     let mut made = Vec::new(alloc);
     let mut rest = values;
@@ -151,7 +162,9 @@ fn give_chars(
     args: &[Value],
 ) -> Result<List<Value>, Stop>
     requires { AllOf store.old args.now }
-    ensures answer { Paid (gives_text store.old.heap (points_bytes (values_seen store.old.texts args.now))) store.old left.old store.new left.new result }
+    ensures answer { Paid
+        (gives_text store.old.heap (points_bytes (values_seen store.old.texts args.now))) store.old
+        left.old store.new left.new result }
     ensures of { AnswerOf store.new result }
     ensures later { IsLater store.old store.new }
 {
@@ -169,7 +182,8 @@ pub fn char(
     args: &[Value],
 ) -> Result<List<Value>, Stop>
     requires { AllOf store.old args.now }
-    ensures answer { Paid (meaning.char (values_seen store.old.texts args.now) store.old.heap) store.old left.old store.new left.new result }
+    ensures answer { Paid (meaning.char (values_seen store.old.texts args.now) store.old.heap)
+        store.old left.old store.new left.new result }
     ensures of { AnswerOf store.new result }
     ensures later { IsLater store.old store.new }
 {

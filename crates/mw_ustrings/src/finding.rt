@@ -31,7 +31,9 @@ fn give_found(
     requires start { IsCharBoundary s.now found.now.start }
     requires end { IsCharBoundary s.now found.now.end }
     requires captures { All (IsCaptureAt (IsCharBoundary s.now)) found.now.captures }
-    ensures answer { Paid (costs (tries + find_bytes found.now) store.old.heap (meaning.find_values s.now found.now)) store.old left.old store.new left.new result }
+    ensures answer { Paid
+        (costs (tries + find_bytes found.now) store.old.heap (meaning.find_values s.now found.now))
+        store.old left.old store.new left.new result }
     ensures of { AnswerOf store.new result }
     ensures later { IsLater store.old store.new }
 {
@@ -52,7 +54,10 @@ fn give_match(
 ) -> Result<List<Value>, Stop>
     requires text { IsUtf8 s.now }
     requires captures { All (IsCaptureAt (IsCharBoundary s.now)) found.now.captures }
-    ensures answer { Paid (costs (tries + match_bytes found.now) store.old.heap (meaning.match_values s.now found.now)) store.old left.old store.new left.new result }
+    ensures answer { Paid
+        (costs (tries + match_bytes found.now) store.old.heap
+        (meaning.match_values s.now found.now))
+        store.old left.old store.new left.new result }
     ensures of { AnswerOf store.new result }
     ensures later { IsLater store.old store.new }
 {
@@ -73,7 +78,10 @@ fn find_pattern(
 ) -> Result<List<Value>, Stop>
     requires text { IsUtf8 s.now }
     requires pattern { IsUtf8 pattern.now }
-    ensures answer { Paid (meaning.searches store.old.heap find_bytes (meaning.find_values s.now) s.now (start_of s.now init) (read_of (codes points pattern.now))) store.old left.old store.new left.new result }
+    ensures answer { Paid
+        (meaning.searches store.old.heap find_bytes (meaning.find_values s.now) s.now
+        (start_of s.now init) (read_of (codes points pattern.now)))
+        store.old left.old store.new left.new result }
     ensures of { AnswerOf store.new result }
     ensures later { IsLater store.old store.new }
 {
@@ -95,7 +103,10 @@ fn match_pattern(
     init: i64,
 ) -> Result<List<Value>, Stop>
     requires { IsUtf8 s.now }
-    ensures answer { Paid (meaning.searches store.old.heap match_bytes (meaning.match_values s.now) s.now (start_of s.now init) (read_of (codes points pattern.now))) store.old left.old store.new left.new result }
+    ensures answer { Paid
+        (meaning.searches store.old.heap match_bytes (meaning.match_values s.now) s.now
+        (start_of s.now init) (read_of (codes points pattern.now)))
+        store.old left.old store.new left.new result }
     ensures of { AnswerOf store.new result }
     ensures later { IsLater store.old store.new }
 {
@@ -119,7 +130,8 @@ fn find_plain(
     requires text { IsUtf8 s.now }
     requires needle { IsUtf8 needle.now }
     requires place { IsCharBoundary s.now from }
-    ensures answer { Paid (meaning.by_text store.old.heap s.now needle.now from) store.old left.old store.new left.new result }
+    ensures answer { Paid (meaning.by_text store.old.heap s.now needle.now from) store.old left.old
+        store.new left.new result }
     ensures of { AnswerOf store.new result }
     ensures same { store.new ≡ store.old }
 {
@@ -150,7 +162,9 @@ fn find_from(
 ) -> Result<List<Value>, Stop>
     requires text { IsUtf8 s.now }
     requires pattern { IsUtf8 pattern.now }
-    ensures answer { Paid (meaning.find_from store.old.heap plain s.now pattern.now (start_of s.now init)) store.old left.old store.new left.new result }
+    ensures answer { Paid
+        (meaning.find_from store.old.heap plain s.now pattern.now (start_of s.now init)) store.old
+        left.old store.new left.new result }
     ensures of { AnswerOf store.new result }
     ensures later { IsLater store.old store.new }
 {
@@ -170,7 +184,8 @@ pub fn find(
     args: &[Value],
 ) -> Result<List<Value>, Stop>
     requires { AllOf store.old args.now }
-    ensures answer { Paid (meaning.find (values_seen store.old.texts args.now) store.old.heap) store.old left.old store.new left.new result }
+    ensures answer { Paid (meaning.find (values_seen store.old.texts args.now) store.old.heap)
+        store.old left.old store.new left.new result }
     ensures of { AnswerOf store.new result }
     ensures later { IsLater store.old store.new }
 {
@@ -200,7 +215,10 @@ fn match_by(
     init: i64,
 ) -> Result<List<Value>, Stop>
     requires { IsUtf8 s.now }
-    ensures answer { Paid (meaning.by_pattern store.old.heap match_bytes (meaning.match_values s.now) s.now pattern.now (start_of s.now init)) store.old left.old store.new left.new result }
+    ensures answer { Paid
+        (meaning.by_pattern store.old.heap match_bytes (meaning.match_values s.now) s.now
+        pattern.now (start_of s.now init))
+        store.old left.old store.new left.new result }
     ensures of { AnswerOf store.new result }
     ensures later { IsLater store.old store.new }
 {
@@ -217,7 +235,8 @@ pub fn match_from(
     args: &[Value],
 ) -> Result<List<Value>, Stop>
     requires { AllOf store.old args.now }
-    ensures answer { Paid (meaning.match_from (values_seen store.old.texts args.now) store.old.heap) store.old left.old store.new left.new result }
+    ensures answer { Paid (meaning.match_from (values_seen store.old.texts args.now) store.old.heap)
+        store.old left.old store.new left.new result }
     ensures of { AnswerOf store.new result }
     ensures later { IsLater store.old store.new }
 {

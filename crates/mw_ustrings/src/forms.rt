@@ -26,7 +26,8 @@ fn pay_all<I: Iterator<Item = Result<char, AllocError>> + Drop>(
 ) -> Result<(), Stop>
     requires can { I.can_next points }
     requires ends { IsFinite (I.remaining points) }
-    ensures { (cs : Items ℕ) → GivesPoints I.next_gives points cs → PaysInMemory (length (encode_utf8_all cs)) left.old left.new result }
+    ensures { (cs : Items ℕ) → GivesPoints I.next_gives points cs
+        → PaysInMemory (length (encode_utf8_all cs)) left.old left.new result }
 {
     'each: while let Some(item) = points.next() {
         match item {
@@ -39,7 +40,8 @@ fn pay_all<I: Iterator<Item = Result<char, AllocError>> + Drop>(
 
 /// Takes a step for each byte of a text in a normal form.
 fn pay_text(alloc: Global, left: &mut Left, form: Form, text: &str) -> Result<(), Stop>
-    ensures { PaysInMemory (length (encode_utf8_all (normalize form (chars text.now)))) left.old left.new result }
+    ensures { PaysInMemory (length (encode_utf8_all (normalize form (chars text.now)))) left.old
+        left.new result }
 {
     match form {
         Form::Nfd => pay_all(left, text.nfd(alloc)),
@@ -77,7 +79,8 @@ fn form_values(
     store: &mut Store,
     made: Option<Vec<u8>>,
 ) -> Result<List<Value>, NoMemory>
-    ensures value { IfOk result (λ values. values_seen store.new.texts values ≡ form_value (option_map (λ v. v.items) made) ∷ []) }
+    ensures value { IfOk result (λ values.
+        values_seen store.new.texts values ≡ form_value (option_map (λ v. v.items) made) ∷ []) }
     ensures of { IfOk result (AllOf store.new) }
     ensures heap { store.new.heap ≡ store.old.heap }
     ensures later { IsLater store.old store.new }
@@ -96,7 +99,8 @@ fn give_form(
     form: Form,
     s: &[u8],
 ) -> Result<List<Value>, Stop>
-    ensures answer { Paid (meaning.in_form form store.old.heap s.now) store.old left.old store.new left.new result }
+    ensures answer { Paid (meaning.in_form form store.old.heap s.now) store.old left.old
+        store.new left.new result }
     ensures of { AnswerOf store.new result }
     ensures later { IsLater store.old store.new }
 {
@@ -116,7 +120,9 @@ fn to_form(
     args: &[Value],
 ) -> Result<List<Value>, Stop>
     requires { AllOf store.old args.now }
-    ensures answer { Paid (meaning.to_form form function.now (values_seen store.old.texts args.now) store.old.heap) store.old left.old store.new left.new result }
+    ensures answer { Paid
+        (meaning.to_form form function.now (values_seen store.old.texts args.now) store.old.heap)
+        store.old left.old store.new left.new result }
     ensures of { AnswerOf store.new result }
     ensures later { IsLater store.old store.new }
 {
@@ -132,7 +138,8 @@ pub fn to_nfc(
     args: &[Value],
 ) -> Result<List<Value>, Stop>
     requires { AllOf store.old args.now }
-    ensures answer { Paid (meaning.to_nfc (values_seen store.old.texts args.now) store.old.heap) store.old left.old store.new left.new result }
+    ensures answer { Paid (meaning.to_nfc (values_seen store.old.texts args.now) store.old.heap)
+        store.old left.old store.new left.new result }
     ensures of { AnswerOf store.new result }
     ensures later { IsLater store.old store.new }
 {
@@ -147,7 +154,8 @@ pub fn to_nfd(
     args: &[Value],
 ) -> Result<List<Value>, Stop>
     requires { AllOf store.old args.now }
-    ensures answer { Paid (meaning.to_nfd (values_seen store.old.texts args.now) store.old.heap) store.old left.old store.new left.new result }
+    ensures answer { Paid (meaning.to_nfd (values_seen store.old.texts args.now) store.old.heap)
+        store.old left.old store.new left.new result }
     ensures of { AnswerOf store.new result }
     ensures later { IsLater store.old store.new }
 {
@@ -162,7 +170,8 @@ pub fn to_nfkc(
     args: &[Value],
 ) -> Result<List<Value>, Stop>
     requires { AllOf store.old args.now }
-    ensures answer { Paid (meaning.to_nfkc (values_seen store.old.texts args.now) store.old.heap) store.old left.old store.new left.new result }
+    ensures answer { Paid (meaning.to_nfkc (values_seen store.old.texts args.now) store.old.heap)
+        store.old left.old store.new left.new result }
     ensures of { AnswerOf store.new result }
     ensures later { IsLater store.old store.new }
 {
@@ -177,7 +186,8 @@ pub fn to_nfkd(
     args: &[Value],
 ) -> Result<List<Value>, Stop>
     requires { AllOf store.old args.now }
-    ensures answer { Paid (meaning.to_nfkd (values_seen store.old.texts args.now) store.old.heap) store.old left.old store.new left.new result }
+    ensures answer { Paid (meaning.to_nfkd (values_seen store.old.texts args.now) store.old.heap)
+        store.old left.old store.new left.new result }
     ensures of { AnswerOf store.new result }
     ensures later { IsLater store.old store.new }
 {

@@ -24,7 +24,8 @@ pub fn spend(left: &mut Left) -> Stop
 /// A count as a value. One that no number of Lua reaches does not fit in memory.
 pub fn number(n: usize) -> Result<Value, NoMemory>
     ensures of { IfOk result (λ v. (s : StoreView) → IsOf s v) }
-    ensures value { IfOk result (λ v. (texts : Items (Items ℕ)) → seen texts v ≡ kind.Number (pos n)) }
+    ensures value { IfOk result (λ v.
+        (texts : Items (Items ℕ)) → seen texts v ≡ kind.Number (pos n)) }
 {
     match i64::try_from(n) {
         Ok(n) => Ok(Value::Number(n)),
@@ -34,7 +35,8 @@ pub fn number(n: usize) -> Result<Value, NoMemory>
 
 /// A text as the only value of a list. It is paid for already.
 pub fn text_value(alloc: Global, store: &mut Store, text: &[u8]) -> Result<List<Value>, NoMemory>
-    ensures value { IfOk result (λ values. values_seen store.new.texts values ≡ kind.Text text.now ∷ []) }
+    ensures value { IfOk result (λ values.
+        values_seen store.new.texts values ≡ kind.Text text.now ∷ []) }
     ensures of { IfOk result (AllOf store.new) }
     ensures heap { store.new.heap ≡ store.old.heap }
     ensures later { IsLater store.old store.new }
@@ -51,7 +53,8 @@ pub fn give_text(
     left: &mut Left,
     text: &[u8],
 ) -> Result<List<Value>, Stop>
-    ensures answer { Paid (gives_text store.old.heap text.now) store.old left.old store.new left.new result }
+    ensures answer { Paid (gives_text store.old.heap text.now) store.old left.old
+        store.new left.new result }
     ensures of { AnswerOf store.new result }
     ensures later { IsLater store.old store.new }
 {
@@ -67,7 +70,8 @@ pub fn give_nothing(
     left: &mut Left,
     steps: u64,
 ) -> Result<List<Value>, Stop>
-    ensures answer { Paid (costs steps store.old.heap (kind.Nil ∷ [])) store.old left.old store.new left.new result }
+    ensures answer { Paid (costs steps store.old.heap (kind.Nil ∷ [])) store.old left.old
+        store.new left.new result }
     ensures of { AnswerOf store.new result }
     ensures same { store.new ≡ store.old }
 {

@@ -30,7 +30,7 @@ pub use call::ustring_call;
 pub use mw_frame_texts::costs::pay_given;
 pub use mw_frame_texts::tagging::tag_of;
 pub use mw_frame_texts::{
-    FieldNames, Left, Library, Stop, Store, TableId, TextIn, Value, a_number, a_table, a_text,
-    is_true, pay, pay_texts, rest, second, single, third,
+    ENTRY_CHARGE, FieldNames, Left, Library, Stop, Store, TABLE_CHARGE, TableId, TextIn, Value,
+    a_number, a_table, a_text, is_true, pay, pay_texts, rest, second, single, third,
 };
 pub use table::{UstringFunction, ustring_function};

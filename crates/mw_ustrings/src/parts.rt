@@ -36,7 +36,8 @@ fn point_value(code: u32) -> Value
 /// Code points as values.
 fn point_values(alloc: Global, codes: &[u32]) -> Result<List<Value>, NoMemory>
     ensures of { IfOk result (λ values. (s : StoreView) → AllOf s values) }
-    ensures values { IfOk result (λ values. (texts : Items (Items ℕ)) → values_seen texts values ≡ meaning.point_values codes.now) }
+    ensures values { IfOk result (λ values.
+        (texts : Items (Items ℕ)) → values_seen texts values ≡ meaning.point_values codes.now) }
 {
     let mut values = List::new(alloc);
     let mut left = codes;
@@ -57,7 +58,8 @@ fn give_points(
     to: i64,
 ) -> Result<List<Value>, Stop>
     requires { IsUtf8 s.now }
-    ensures answer { Paid (meaning.gives_points store.old.heap (points_of s.now from to)) store.old left.old store.new left.new result }
+    ensures answer { Paid (meaning.gives_points store.old.heap (points_of s.now from to)) store.old
+        left.old store.new left.new result }
     ensures of { AnswerOf store.new result }
     ensures same { store.new ≡ store.old }
 {
@@ -76,7 +78,8 @@ pub fn codepoint(
     args: &[Value],
 ) -> Result<List<Value>, Stop>
     requires { AllOf store.old args.now }
-    ensures answer { Paid (meaning.codepoint (values_seen store.old.texts args.now) store.old.heap) store.old left.old store.new left.new result }
+    ensures answer { Paid (meaning.codepoint (values_seen store.old.texts args.now) store.old.heap)
+        store.old left.old store.new left.new result }
     ensures of { AnswerOf store.new result }
     ensures later { IsLater store.old store.new }
 {
@@ -90,7 +93,8 @@ pub fn codepoint(
 /// A place, or nil.
 fn place_or_nil(place: Option<usize>) -> Result<Value, NoMemory>
     ensures of { IfOk result (λ v. (s : StoreView) → IsOf s v) }
-    ensures value { IfOk result (λ v. (texts : Items (Items ℕ)) → seen texts v ≡ meaning.place_or_nil place) }
+    ensures value { IfOk result (λ v.
+        (texts : Items (Items ℕ)) → seen texts v ≡ meaning.place_or_nil place) }
 {
     match place {
         Some(at) => number(at),
@@ -102,7 +106,8 @@ fn place_or_nil(place: Option<usize>) -> Result<Value, NoMemory>
 /// default 1.
 pub fn byteoffset(alloc: Global, store: &mut Store, args: &[Value]) -> Result<List<Value>, Stop>
     requires { AllOf store.old args.now }
-    ensures answer { Free (meaning.byteoffset (values_seen store.old.texts args.now) store.old.heap) store.new result }
+    ensures answer { Free (meaning.byteoffset (values_seen store.old.texts args.now) store.old.heap)
+        store.new result }
     ensures of { AnswerOf store.new result }
     ensures later { IsLater store.old store.new }
 {
@@ -125,7 +130,8 @@ fn give_part(
     to: i64,
 ) -> Result<List<Value>, Stop>
     requires { IsUtf8 s.now }
-    ensures answer { Paid (gives_text store.old.heap (encode_utf8_all (points_of s.now from to))) store.old left.old store.new left.new result }
+    ensures answer { Paid (gives_text store.old.heap (encode_utf8_all (points_of s.now from to)))
+        store.old left.old store.new left.new result }
     ensures of { AnswerOf store.new result }
     ensures later { IsLater store.old store.new }
 {
@@ -140,7 +146,8 @@ pub fn sub(
     args: &[Value],
 ) -> Result<List<Value>, Stop>
     requires { AllOf store.old args.now }
-    ensures answer { Paid (meaning.sub (values_seen store.old.texts args.now) store.old.heap) store.old left.old store.new left.new result }
+    ensures answer { Paid (meaning.sub (values_seen store.old.texts args.now) store.old.heap)
+        store.old left.old store.new left.new result }
     ensures of { AnswerOf store.new result }
     ensures later { IsLater store.old store.new }
 {

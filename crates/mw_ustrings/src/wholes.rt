@@ -15,7 +15,8 @@ use std::alloc::Global;
 /// How many code points these bytes spell, or nil where they aren't UTF-8.
 fn length_in(s: &[u8]) -> Result<Value, NoMemory>
     ensures of { IfOk result (λ v. (t : StoreView) → IsOf t v) }
-    ensures value { IfOk result (λ v. (texts : Items (Items ℕ)) → seen texts v ≡ meaning.length_in s.now) }
+    ensures value { IfOk result (λ v.
+        (texts : Items (Items ℕ)) → seen texts v ≡ meaning.length_in s.now) }
 {
     match mw_text::mw_ustring_len(s) {
         Some(length) => number(length),
@@ -26,7 +27,8 @@ fn length_in(s: &[u8]) -> Result<Value, NoMemory>
 /// `mw.ustring.len(s)`: how many code points a text has, or nil where its bytes aren't UTF-8.
 pub fn len(alloc: Global, store: &mut Store, args: &[Value]) -> Result<List<Value>, Stop>
     requires { AllOf store.old args.now }
-    ensures answer { Free (meaning.len (values_seen store.old.texts args.now) store.old.heap) store.new result }
+    ensures answer { Free (meaning.len (values_seen store.old.texts args.now) store.old.heap)
+        store.new result }
     ensures of { AnswerOf store.new result }
     ensures later { IsLater store.old store.new }
 {
@@ -39,7 +41,8 @@ pub fn len(alloc: Global, store: &mut Store, args: &[Value]) -> Result<List<Valu
 /// `mw.ustring.isutf8(s)`: whether the bytes of a text are UTF-8.
 pub fn isutf8(alloc: Global, store: &mut Store, args: &[Value]) -> Result<List<Value>, Stop>
     requires { AllOf store.old args.now }
-    ensures answer { Free (meaning.isutf8 (values_seen store.old.texts args.now) store.old.heap) store.new result }
+    ensures answer { Free (meaning.isutf8 (values_seen store.old.texts args.now) store.old.heap)
+        store.new result }
     ensures of { AnswerOf store.new result }
     ensures later { IsLater store.old store.new }
 {

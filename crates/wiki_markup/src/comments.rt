@@ -8,7 +8,8 @@ use crate::words::{behind_word, past_blank};
 /// The place behind the next `-->`, or the end of the text.
 fn comment_end(text: &[u8], from: usize) -> usize
     requires { from ≤ length text.now }
-    ensures same { or_end (behind_next (behind comment_end_lem) (drop from text.now)) ≡ drop result text.now }
+    ensures same { or_end (behind_next (behind comment_end_lem) (drop from text.now))
+        ≡ drop result text.now }
     ensures ahead { from ≤ result }
     ensures inside { result ≤ length text.now }
 {

@@ -44,7 +44,9 @@ fn push(kept: &mut Vec<Kept>, node: Kept) -> Result<(), NoMemory>
 /// A text more, and its node.
 fn push_text(texts: &mut Texts, kept: &mut Vec<Kept>, text: &[u8]) -> Result<(), NoMemory>
     requires { AreNumbered (length texts.old) (reverse kept.old.items) }
-    ensures ok { OnOk result (nodes_before texts.new (reverse kept.new.items) ≡ put_node (Text text.now) (length (nodes_before texts.old (reverse kept.old.items))) (nodes_before texts.old (reverse kept.old.items))) }
+    ensures ok { OnOk result (nodes_before texts.new (reverse kept.new.items)
+        ≡ put_node (Text text.now) (length (nodes_before texts.old (reverse kept.old.items)))
+        (nodes_before texts.old (reverse kept.old.items))) }
     ensures numbered { AreNumbered (length texts.new) (reverse kept.new.items) }
 {
     let number = short(texts.len())?;
@@ -66,7 +68,8 @@ fn turned(node: Kept, count: u32) -> Kept
 
 /// The nodes from the left, in no more room than they need.
 fn from_the_left(alloc: Global, kept: Vec<Kept>) -> Result<List<Kept>, NoMemory>
-    ensures { IfOk result (λ nodes. nodes ≡ map (turned_lem (length kept.items)) (reverse kept.items)) }
+    ensures { IfOk result (λ nodes.
+        nodes ≡ map (turned_lem (length kept.items)) (reverse kept.items)) }
 {
     let count = short(kept.len())?;
     let Ok(room) = Vec::with_capacity(alloc, kept.len()) else {

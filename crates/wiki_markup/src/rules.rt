@@ -51,7 +51,8 @@ fn include_tags_direct(text: &[u8], at: usize) -> Option<usize>
 #[tactic(auto, unfolding(crate::specs::Shown::include_tags))]
 fn include_tags_transcluded(text: &[u8], part: bool, at: usize) -> Option<usize>
     requires { at ≤ length text.now }
-    ensures same { include_tags_lem Mode.Transcluded part (drop at text.now) ≡ left_at text.now result }
+    ensures same { include_tags_lem Mode.Transcluded part (drop at text.now)
+        ≡ left_at text.now result }
     ensures ahead { IfSome result (λ p. at < p) }
     ensures inside { IfSome result (λ p. p ≤ length text.now) }
 {
@@ -94,7 +95,8 @@ pub fn at_place(
 ) -> Ruling
     requires inside { at < length text.now }
     requires ends { AreLastEnds text.now ends.now }
-    ensures same { at_place_lem mode part line (drop at text.now) (drop (at + 1) text.now) ≡ result_at text.now result }
+    ensures same { at_place_lem mode part line (drop at text.now) (drop (at + 1) text.now)
+        ≡ result_at text.now result }
     ensures ahead { at < place_of result }
     ensures inside { place_of result ≤ length text.now }
 {

@@ -89,7 +89,8 @@ impl Showing {
     fn put(&mut self, text: &[u8], at: usize, taken: Ruling) -> Result<usize, NoMemory>
         requires ahead { at < place_of taken }
         requires inside { place_of taken ≤ length text.now }
-        ensures put { OnOk result (self.new ≡ put_piece (piece_of (drop at text.now) (result_at text.now taken)) self.old) }
+        ensures put { OnOk result (self.new
+            ≡ put_piece (piece_of (drop at text.now) (result_at text.now taken)) self.old) }
         ensures place { IfOk result (λ p. p ≡ place_of taken) }
     {
         match taken {
@@ -125,7 +126,8 @@ impl Showing {
 
     /// The parts between `onlyinclude` tags.
     fn show_parts(&mut self, text: &[u8], mode: Mode) -> Result<(), NoMemory>
-        ensures { OnOk result (self.new ≡ put_pieces (parts_lem mode (suc (length text.now)) text.now) self.old) }
+        ensures { OnOk result (self.new
+            ≡ put_pieces (parts_lem mode (suc (length text.now)) text.now) self.old) }
     {
         let mut at = 0;
         'parts: loop {

@@ -106,8 +106,10 @@ pub fn next_opening(text: &[u8], from: usize, name: Name) -> Option<usize>
 /// The next `</name>`.
 pub fn find_closing(text: &[u8], from: usize, name: Name) -> Option<TagSpan>
     requires { from ≤ length text.now }
-    ensures same { behind_next (closing_lem name) (drop from text.now) ≡ left_at text.now (end_of result) }
-    ensures front { before_next (closing_lem name) (drop from text.now) ≡ take (start_or (length text.now) result - from) (drop from text.now) }
+    ensures same { behind_next (closing_lem name) (drop from text.now)
+        ≡ left_at text.now (end_of result) }
+    ensures front { before_next (closing_lem name) (drop from text.now)
+        ≡ take (start_or (length text.now) result - from) (drop from text.now) }
     ensures ahead { IfSome result (λ t. from ≤ t.start) }
     ensures some { IfSome result (λ t. t.start < t.end) }
     ensures inside { IfSome result (λ t. t.end ≤ length text.now) }

@@ -48,8 +48,10 @@ fn push_place(places: &mut Vec<u32>, place: usize) -> Result<(), NoMemory>
 
 /// A text more, with the place where it ends.
 fn push_text(bytes: &mut Vec<u8>, ends: &mut Vec<u32>, text: &[u8]) -> Result<(), NoMemory>
-    ensures ok { OnOk result ((bytes.new.items ≡ bytes.old.items ++ text.now) × (ends.new.items ≡ ends.old.items ++ length (bytes.old.items ++ text.now) ∷ [])) }
-    ensures err { OnErr result ((bytes.new.items ≡ bytes.old.items) × (ends.new.items ≡ ends.old.items)) }
+    ensures ok { OnOk result ((bytes.new.items ≡ bytes.old.items ++ text.now)
+        × (ends.new.items ≡ ends.old.items ++ length (bytes.old.items ++ text.now) ∷ [])) }
+    ensures err { OnErr result ((bytes.new.items ≡ bytes.old.items)
+        × (ends.new.items ≡ ends.old.items)) }
 {
     let before = bytes.len();
     if bytes.extend_from_slice(text).is_err() {
