@@ -2,18 +2,18 @@
 ghost use Rattle.std.specs.Prelude.{◌≡◌, [], ℕ, List as Items, Ok, IfOk, IfErr, IfSome, OnOk};
 ghost use Rattle.std.specs.Option.{option_map};
 ghost use Rattle.lua_strings.specs.LuaMeaningScope.{Bytes};
-ghost use Rattle.lua_strings.specs.LuaMeaningArguments.{a_table};
+ghost use Rattle.lua_strings.specs.LuaMeaningArguments.{a_table, a_text as text_given};
 ghost use Rattle.lua_strings.specs.LuaMeaningChecks as checks;
 ghost use Rattle.lua_strings.specs.LuaMeaningHtml as meaning;
-ghost use Rattle.lua_strings.specs.LuaStoreSeen.{StoreView};
-ghost use Rattle.lua_strings.specs.LuaStoreParts.{IsTableOf, IsMarkupOf, IsLater};
+ghost use Rattle.lua_strings.specs.LuaStoreSeen.{StoreView, text_at};
+ghost use Rattle.lua_strings.specs.LuaStoreParts.{IsTextOf, IsTableOf, IsMarkupOf, IsLater};
 ghost use Rattle.lua_strings.specs.LuaBasicArguments.{found_table, text_bytes};
 ghost use Rattle.lua_strings.specs.LuaBasicSeen.{values_seen, AllOf, StopOf, Refuses};
 ghost use Rattle.mw_htmls.specs.Found.{found_object};
 
 use lua_strings::{
-    MarkupId, Stop, Store, TableId, TextIn, Value, a_text, fail, field, first, is_nil, is_true,
-    refuse_kind,
+    MarkupId, Stop, Store, TableId, TextId, TextIn, Value, a_text, fail, field, first, is_nil,
+    is_true, refuse_kind,
 };
 use mw_html::is_name;
 use std::alloc::Global;
@@ -36,6 +36,17 @@ pub fn table_in(given: &[Value]) -> Option<TableId>
 {
     match given {
         [Value::Table(id), ..] => Some(*id),
+        _ => None,
+    }
+}
+
+/// The first of these arguments, where it is a text.
+pub fn text_in_front(given: &[Value]) -> Option<TextId>
+    ensures of { (s : StoreView) → AllOf s given.now → IfSome result (IsTextOf s) }
+    ensures text { (texts : Items (Items ℕ)) (n : ℕ) (function : Bytes) → IfSome result (λ id. text_given n function (values_seen texts given.now) ≡ Ok (text_at texts id.at)) }
+{
+    match given {
+        [Value::Text(id), ..] => Some(*id),
         _ => None,
     }
 }

@@ -14,8 +14,8 @@ ghost use Rattle.lua_strings.specs.Costs.{Pays};
 ghost use Rattle.mw_htmls.specs.Nodes.{bytes_in};
 ghost use Rattle.mw_htmls.specs.Table.{add_class_on, get_attr_on, css_text_on};
 
-use crate::arguments::text_if_any;
-use crate::lists::split_pairs;
+use crate::arguments::{text_if_any, text_in_front};
+use crate::lists::{is_same_text, split_pairs};
 use crate::settings::{add_style_text, set_attr};
 use lua_strings::paying::{give_text, take, take_sum};
 use lua_strings::{Left, MarkupId, Stop, Store, TextId, TextPair, Value, a_text, single};
@@ -51,6 +51,31 @@ fn attribute<'b>(store: &Store<'b>, id: MarkupId, name: &[u8]) -> Option<&'b [u8
     ensures { bytes_in result ≡ nodes.value_of name.now (markup_at store.now.heap id.at).attrs }
 {
     value_of(store, store.markup(id).attrs.as_slice(), name)
+}
+
+/// The value of an attribute among these, whose name is one of the texts of the store: no bytes are compared.
+fn value_named<'b>(store: &Store<'b>, pairs: &[TextPair], name: TextId) -> Option<&'b [u8]>
+    requires pairs { AllByRecursion (IsPairOf store.now) pairs.now }
+    requires name { IsTextOf store.now name }
+    ensures { bytes_in result ≡ nodes.value_of (text_at store.now.texts name.at) (map (seen_pair store.now.texts) pairs.now) }
+{
+    let mut rest = pairs;
+    'each: while let Some((pair, more)) = split_pairs(rest) {
+        if is_same_text(store, pair.name, name) {
+            return Some(store.bytes(pair.value));
+        }
+        rest = more;
+    }
+    None
+}
+
+/// The value of an attribute of an object, whose name is one of the texts of the store.
+fn attribute_named<'b>(store: &Store<'b>, id: MarkupId, name: TextId) -> Option<&'b [u8]>
+    requires id { IsMarkupOf store.now id }
+    requires name { IsTextOf store.now name }
+    ensures { bytes_in result ≡ nodes.value_of (text_at store.now.texts name.at) (markup_at store.now.heap id.at).attrs }
+{
+    value_named(store, store.markup(id).attrs.as_slice(), name)
 }
 
 /// Takes a step for each byte of two texts, and for one byte between them.
@@ -125,7 +150,7 @@ pub fn add_class(
     }
 }
 
-/// The value of an attribute is given, after a step for each of its bytes; or nil.
+/// The value of the attribute with these bytes as its name is given, after a step for each of its bytes; or nil.
 fn give_value(
     alloc: Global,
     store: &mut Store,
@@ -147,8 +172,31 @@ fn give_value(
     }
 }
 
-/// `getAttr(name)`: the value of an attribute, or nil.
-pub fn get_attr(
+/// The value of the attribute with this text of the store as its name is given, after a step for each of its bytes; or nil.
+fn give_named(
+    alloc: Global,
+    store: &mut Store,
+    left: &mut Left,
+    id: MarkupId,
+    name: TextId,
+) -> Result<List<Value>, Stop>
+    requires id { IsMarkupOf store.old id }
+    requires name { IsTextOf store.old name }
+    ensures answer { Paid (meaning.gives_value store.old.heap (nodes.value_of (text_at store.old.texts name.at) (markup_at store.old.heap id.at).attrs)) store.old left.old store.new left.new result }
+    ensures of { AnswerOf store.new result }
+    ensures later { IsLater store.old store.new }
+{
+    match attribute_named(store, id, name) {
+        Some(value) => give_text(alloc, store, left, value),
+        None => {
+            let values = single(alloc, Value::Nil)?;
+            Ok(values)
+        }
+    }
+}
+
+/// `getAttr(name)`, where the name may be a number, or wrong.
+fn give_called(
     alloc: Global,
     store: &mut Store,
     left: &mut Left,
@@ -163,6 +211,26 @@ pub fn get_attr(
 {
     let name = a_text(alloc, store, 2, b"getAttr", given)?;
     give_value(alloc, store, left, id, name.as_slice())
+}
+
+/// `getAttr(name)`: the value of an attribute, or nil.
+pub fn get_attr(
+    alloc: Global,
+    store: &mut Store,
+    left: &mut Left,
+    id: MarkupId,
+    given: &[Value],
+) -> Result<List<Value>, Stop>
+    requires id { IsMarkupOf store.old id }
+    requires given { AllOf store.old given.now }
+    ensures answer { Paid (get_attr_on id.at (values_seen store.old.texts given.now) store.old.heap) store.old left.old store.new left.new result }
+    ensures of { AnswerOf store.new result }
+    ensures later { IsLater store.old store.new }
+{
+    match text_in_front(given) {
+        Some(name) => give_named(alloc, store, left, id, name),
+        None => give_called(alloc, store, left, id, given),
+    }
 }
 
 /// A text of styles is added, and the object is given.

@@ -5,7 +5,7 @@
 //! - `nodes`: an object of the store is changed
 //! - `making`: `create` and `tag`
 //! - `children`: `node`, `wikitext` and `newline`
-//! - `lists`: attributes and styles with one that is set, or without one
+//! - `lists`: an attribute or a style is set in its place, or removed
 //! - `settings`: an attribute or a style is set
 //! - `setting`: `attr` and `css` of one name
 //! - `tabled`: `attr` and `css` of a table

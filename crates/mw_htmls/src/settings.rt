@@ -3,27 +3,15 @@ ghost use Rattle.std.specs.Prelude.{◌≡◌, map, IfOk, IfSome, OnOk};
 ghost use Rattle.std.specs.List.{AllByRecursion};
 ghost use Rattle.mw_html.specs.LuaHeapHeap.{markup_at, set_markup_in};
 ghost use Rattle.lua_strings.specs.LuaMeaningHtmlNodes as meaning;
-ghost use Rattle.lua_strings.specs.LuaStoreSeen.{seen_pair, seen_style};
-ghost use Rattle.lua_strings.specs.LuaStoreParts.{IsTextOf, IsPairOf, IsStyleOf, IsMarkupOf, IsLater};
+ghost use Rattle.lua_strings.specs.LuaStoreSeen.{seen_style};
+ghost use Rattle.lua_strings.specs.LuaStoreParts.{IsTextOf, IsStyleOf, IsMarkupOf, IsLater};
 ghost use Rattle.mw_htmls.specs.Nodes.{bytes_in, text_seen, style_texts, with_node, attrs_set, styles_set};
 
-use crate::lists::{attrs_with, styles_with};
+use crate::lists::{set_item, set_pair};
 use crate::nodes::{put, take};
-use lua_strings::{MarkupId, MarkupStyle, Store, TextId, TextPair};
+use lua_strings::{MarkupId, MarkupStyle, Store, TextId};
 use mw_html::{List, NoMemory};
 use std::alloc::Global;
-
-/// An object has these attributes.
-fn put_attrs(alloc: Global, store: &mut Store, id: MarkupId, attrs: List<TextPair>)
-    requires id { IsMarkupOf store.old id }
-    requires attrs { AllByRecursion (IsPairOf store.old) attrs }
-    ensures put { store.new ≡ with_node store.old id.at (attrs_set (map (seen_pair store.old.texts) attrs) (markup_at store.old.heap id.at)) }
-    ensures later { IsLater store.old store.new }
-{
-    let mut node = take(alloc, store, id);
-    node.attrs = attrs;
-    put(store, id, node);
-}
 
 /// An object has these styles.
 fn put_styles(alloc: Global, store: &mut Store, id: MarkupId, styles: List<MarkupStyle>)
@@ -67,8 +55,9 @@ pub fn set_attr(
 {
     let key = store.text(name)?;
     let text = text_if_any(store, value)?;
-    let attrs = attrs_with(alloc, store, store.markup(id).attrs.as_slice(), key, text)?;
-    put_attrs(alloc, store, id, attrs);
+    let mut node = take(alloc, store, id);
+    set_pair(alloc, store, &mut node.attrs, key, text)?;
+    put(store, id, node);
     Ok(())
 }
 
@@ -86,8 +75,9 @@ pub fn set_style(
 {
     let key = store.text(name)?;
     let text = text_if_any(store, value)?;
-    let styles = styles_with(alloc, store, store.markup(id).styles.as_slice(), key, text)?;
-    put_styles(alloc, store, id, styles);
+    let mut node = take(alloc, store, id);
+    set_item(alloc, store, &mut node.styles, key, text)?;
+    put(store, id, node);
     Ok(())
 }
 

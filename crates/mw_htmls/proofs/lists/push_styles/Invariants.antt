@@ -1,9 +1,0 @@
-use Rattle.std.proofs.Common.{◌≡◌, ◌++◌, length}
-use Rattle.mw_htmls.proofs.lists.push_styles.Given as goal
-
--- what was added and what is still to add are all
-abbrev pub invariant-each : goal.invariant-each
-invariant-each l = l.styles ++ l.rest ≡ l.initial.styles ++ l.more
-
-abbrev pub decreases-each : goal.decreases-each
-decreases-each l = length l.rest
