@@ -36,8 +36,8 @@ pub use lua_stack::register::{Slot as LuaStackRegisterSlot, captures, read, writ
 pub use lua_stack::values::{is_function, is_nil, is_true};
 pub use lua_stack::{
     Activations, Asked, Callee, ClosureId, EachLoop, Ending, Environment, Finding, Focus, Found,
-    Frame, Given, InAssignment, InConstructor, InExpression, InLoop, InRun, InStatement, Jump,
-    Pending, Raising, Setting, Slot as LuaStackSlot, Stack, Thing, Values, Which, Work, boxed,
-    give_up,
+    Frame, Frames, Given, InAssignment, InConstructor, InExpression, InLoop, InRun, InStatement,
+    Jump, Pending, Raising, Setting, Slot as LuaStackSlot, Stack, Thing, Values, Which, Work,
+    boxed,
 };
 pub use step::{Failure, Paid, Step};

@@ -14,7 +14,7 @@ use crate::step::Step;
 use lua_basic::{Store, Value};
 use lua_code::{Expression, NoMemory};
 use lua_stack::values::is_true;
-use lua_stack::{Focus, Frame, Given, InExpression, Stack, Values};
+use lua_stack::{Focus, Frame, Frames, Given, InExpression, Values};
 
 /// The first of some expressions, and those behind it.
 #[derive(Clone, Copy)]
@@ -35,7 +35,7 @@ fn front_of<'m>(expressions: &'m [Expression]) -> Option<Front<'m>>
 /// A list goes on, with the values before.
 pub fn list<'m>(
     store: &Store,
-    frames: &mut Stack<Frame<'m>>,
+    frames: &mut Frames<'m>,
     expressions: &'m [Expression],
     before: Values,
 ) -> Result<Step<'m>, NoMemory>
@@ -83,7 +83,7 @@ pub fn more_values<'m>(
 /// An operand of `and` or `or`: it is the value where it decides, and else the other operand is.
 pub fn choose_operand<'m>(
     store: &Store,
-    frames: &mut Stack<Frame<'m>>,
+    frames: &mut Frames<'m>,
     deciding: bool,
     other: &'m Expression,
     value: Value,

@@ -21,7 +21,7 @@ use lua_basic::{Store, Value};
 use lua_code::{Expression, List, NoMemory, Statement};
 use lua_number::add;
 use lua_stack::values::{is_nil, is_true};
-use lua_stack::{EachLoop, Environment, Focus, Frame, Given, InLoop, Stack, Thing, Values};
+use lua_stack::{EachLoop, Environment, Focus, Frame, Frames, Given, InLoop, Thing, Values};
 use std::alloc::Global;
 
 /// No values for the frames: a loop or a statement is over.
@@ -147,7 +147,7 @@ pub fn counting<'m>(
 pub fn step_next<'m>(
     alloc: Global,
     store: &Store,
-    frames: &mut Stack<Frame<'m>>,
+    frames: &mut Frames<'m>,
     boxed: bool,
     bounds: (Value, Value),
     by: Option<&'m Expression>,
@@ -180,7 +180,7 @@ pub fn each_from<'m>(
     alloc: Global,
     store: &Store,
     env: &Environment,
-    frames: &mut Stack<Frame<'m>>,
+    frames: &mut Frames<'m>,
     each: Box<EachLoop<'m>>,
     before: Value,
 ) -> Result<Step<'m>, NoMemory>

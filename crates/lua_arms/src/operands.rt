@@ -14,13 +14,13 @@ ghost use Rattle.lua_arms.specs.Operands.{HasOperands};
 use crate::step::Step;
 use lua_basic::Store;
 use lua_code::{Expression, NoMemory};
-use lua_stack::{Focus, Frame, InExpression, Stack};
+use lua_stack::{Focus, Frame, Frames, InExpression};
 
 /// An expression with operands begins, whose step is taken and which is counted.
 #[tactic(auto, using(crate::proofs::Codes::codes))]
 pub fn begin_operands<'m>(
     store: &Store,
-    frames: &mut Stack<Frame<'m>>,
+    frames: &mut Frames<'m>,
     code: &'m Expression,
 ) -> Result<Step<'m>, NoMemory>
     requires code { HasOperands (expression_seen code.now) }

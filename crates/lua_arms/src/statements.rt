@@ -11,13 +11,13 @@ use crate::loops::nothing;
 use crate::step::Step;
 use lua_basic::Store;
 use lua_code::{Branch, List, NoMemory, Statement};
-use lua_stack::{Ending, Focus, Frame, InStatement, Slot, Stack};
+use lua_stack::{Ending, Focus, Frame, Frames, InStatement, Slot, Stack};
 use std::alloc::Global;
 
 /// A block of its own begins: at its end its registers are gone.
 pub fn within<'m>(
     store: &Store,
-    frames: &mut Stack<Frame<'m>>,
+    frames: &mut Frames<'m>,
     regs: &Stack<Slot>,
     body: &'m List<Statement>,
 ) -> Result<Step<'m>, NoMemory>
@@ -51,7 +51,7 @@ fn front_branch<'m>(branches: &'m [Branch]) -> Option<FrontBranch<'m>>
 pub fn branches<'m>(
     alloc: Global,
     store: &Store,
-    frames: &mut Stack<Frame<'m>>,
+    frames: &mut Frames<'m>,
     regs: &Stack<Slot>,
     branches: &'m [Branch],
     other: Option<&'m List<Statement>>,

@@ -16,8 +16,8 @@ ghost use Rattle.lua_state.specs.Seen.{frames_of, slots_of};
 
 use lua_code::{Branch, List, NoMemory, Statement};
 use lua_state::{
-    Frame, InStatement, Left, Slot, Stack, State, Step, Store, Turn, Value, branches, finish,
-    is_true, within,
+    Frame, Frames, InStatement, Left, Slot, Stack, State, Step, Store, Turn, Value, branches,
+    finish, is_true, within,
 };
 use std::alloc::Global;
 
@@ -25,7 +25,7 @@ use std::alloc::Global;
 fn choose_branch<'m>(
     alloc: Global,
     store: &Store,
-    frames: &mut Stack<Frame<'m>>,
+    frames: &mut Frames<'m>,
     regs: &Stack<Slot>,
     body: &'m List<Statement>,
     more: &'m [Branch],

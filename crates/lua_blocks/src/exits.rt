@@ -10,7 +10,7 @@ ghost use Rattle.lua_state.specs.Of.{StateOf};
 ghost use Rattle.lua_state.specs.Seen.{frames_of, slots_of};
 
 use lua_code::NoMemory;
-use lua_state::{Focus, Frame, Given, State, Store, Turn, Values, give_up};
+use lua_state::{Focus, Frame, Given, State, Store, Turn, Values};
 use std::alloc::Global;
 
 /// No values for the frames: a statement is over.
@@ -36,7 +36,7 @@ pub fn wait<'m>(
 {
     match state.frames.push(frame) {
         Ok(_) => Ok(Turn::On(focus)),
-        Err(_) => Err(give_up(focus)),
+        Err(_) => Err(focus.give_up()),
     }
 }
 
@@ -55,11 +55,8 @@ pub fn wait_within<'m>(
     ensures { (l : Allowance) → IfOk result (λ r. Makes store.now state.old l store.now state.new l
         (Now (focus_seen store.now focus.entry (frame_seen store.now.texts inner.entry ∷ frame_seen store.now.texts outer.entry ∷ frames_of store.now state.old)) (slots_of store.now state.old)) r) }
 {
-    match state.frames.push(outer) {
-        Ok(_) => match state.frames.push(inner) {
-            Ok(_) => Ok(Turn::On(focus)),
-            Err(_) => Err(give_up(focus)),
-        },
-        Err(_) => Err(give_up((inner, focus))),
+    match state.frames.push_two(outer, inner) {
+        Ok(_) => Ok(Turn::On(focus)),
+        Err(_) => Err(focus.give_up()),
     }
 }

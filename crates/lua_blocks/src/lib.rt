@@ -29,9 +29,9 @@ pub mod targets;
 pub use assignments::give_assignment;
 pub use giving::give_statement;
 pub use lua_state::{
-    Activations, ArgText, ByTitle, Codes, Focus, Frame, Given, Jump, Left, Outcome, Stack, State,
-    Steps, TextIn, Thing, Turn, Values, World, boxed, finish, finish_paid, index_link, merge_args,
-    set_link,
+    Activations, ArgText, ByTitle, Codes, Focus, Frame, Frames, Given, Jump, Left, Outcome, Stack,
+    State, Steps, TextIn, Thing, Turn, Values, World, boxed, finish, finish_paid, index_link,
+    merge_args, set_link,
 };
 pub use setting::set;
 pub use statements::run;

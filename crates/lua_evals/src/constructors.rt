@@ -21,7 +21,7 @@ ghost use Rattle.lua_state.specs.Seen.{frames_of, slots_of};
 
 use crate::exits::{give, wait};
 use lua_code::{Entry, NoMemory};
-use lua_operators::{Focus, Frame, InConstructor, Left, Stack, Store, Value, set_entry};
+use lua_operators::{Focus, Frame, Frames, InConstructor, Left, Store, Value, set_entry};
 use lua_state::{Given, State, TableId, Turn, Values, finish_paid};
 use std::alloc::Global;
 
@@ -44,7 +44,7 @@ fn front_of<'m>(entries: &'m [Entry]) -> Option<Front<'m>>
 /// The entries that are left: the first of them is evaluated, or the table is the value.
 #[tactic(auto, using(crate::proofs::Codes::codes))]
 pub fn fields<'m>(
-    frames: &mut Stack<Frame<'m>>,
+    frames: &mut Frames<'m>,
     table: TableId,
     place: usize,
     entries: &'m [Entry],

@@ -13,7 +13,7 @@ ghost use Rattle.lua_state.specs.Seen.{frames_of, slots_of};
 
 use lua_code::NoMemory;
 use lua_operators::{Focus, Frame, Store, Value};
-use lua_state::{Given, State, Turn, give_up};
+use lua_state::{Given, State, Turn};
 
 /// One value for the frames.
 pub fn give<'m>(store: &Store, state: &State<'m>, value: Value) -> Turn<'m>
@@ -39,6 +39,6 @@ pub fn wait<'m>(
 {
     match state.frames.push(frame) {
         Ok(_) => Ok(Turn::On(focus)),
-        Err(_) => Err(give_up(focus)),
+        Err(_) => Err(focus.give_up()),
     }
 }

@@ -12,7 +12,7 @@ ghost use Rattle.lua_state.specs.Of.{StateOf};
 ghost use Rattle.lua_state.specs.Seen.{frames_of, slots_of};
 
 use lua_code::{List, NoMemory, Statement};
-use lua_state::{Ending, Focus, Frame, Given, Stack, State, Store, Turn, Values, give_up};
+use lua_state::{Ending, Focus, Frame, Frames, Given, State, Store, Turn, Values};
 use std::alloc::Global;
 
 /// No values for the frames.
@@ -47,13 +47,13 @@ pub fn wait<'m>(
 {
     match state.frames.push(frame) {
         Ok(_) => Ok(Turn::On(focus)),
-        Err(_) => Err(give_up(focus)),
+        Err(_) => Err(focus.give_up()),
     }
 }
 
 /// A body runs, and this is done at its end.
 pub fn run_body<'m>(
-    frames: &mut Stack<Frame<'m>>,
+    frames: &mut Frames<'m>,
     ending: Ending<'m>,
     body: &'m List<Statement>,
 ) -> Result<Focus<'m>, NoMemory>

@@ -26,8 +26,8 @@ pub use bodies::enter_body;
 pub use endings::give_end;
 pub use giving::give_loop;
 pub use lua_state::{
-    Activations, Callee, Ending, InLoop, Slot, State, Steps, Values, enter_call, leave_call, open,
-    open_all,
+    Activations, Callee, Ending, InLoop, Slot, Stack, State, Steps, Values, enter_call, leave_call,
+    open, open_all,
 };
 pub use passing::pass_end;
 pub use turns::{count_turn, each_turn, repeat_turn, while_turn};

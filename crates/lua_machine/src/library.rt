@@ -17,7 +17,7 @@ ghost use Rattle.lua_machine.specs.Going.{GoesTo, GivesOn};
 ghost use Rattle.lua_machine.specs.Moved.{is_event};
 
 use crate::moving::turn;
-use lua_blocks::{Focus, Frame, Given, Left, Stack, State, Steps, Turn};
+use lua_blocks::{Focus, Frames, Given, Left, State, Steps, Turn};
 use lua_code::NoMemory;
 use lua_rows::{Waiting, drop_newest, enter_library, leave_call, of_newest};
 use lua_store::{Library, Store, Value};
@@ -26,7 +26,7 @@ use std::alloc::Global;
 use std::sync::ledger::Ledger;
 
 /// The function of the library that the newest frame calls, and the line of the call.
-fn called(frames: &Stack<Frame<'_>>) -> Option<(Library, u32)>
+fn called(frames: &Frames<'_>) -> Option<(Library, u32)>
     ensures { IfSome result (λ p. IsNewest frames.now (frame_kind.Expression (in_expression.CallNow (value_kind.Builtin p.0) p.1))) }
 {
     match of_newest(frames) {
@@ -116,7 +116,7 @@ pub fn call_or_move<'m, L: Ledger>(
 }
 
 /// Whether values have reached the end of a call of a function of the library.
-fn is_at_end(frames: &Stack<Frame<'_>>, turned: &Turn<'_>) -> bool
+fn is_at_end(frames: &Frames<'_>, turned: &Turn<'_>) -> bool
     ensures newest { result ≡ true → IsNewest frames.now (frame_kind.End ending_kind.LibraryEnd) }
     ensures gives { result ≡ true → GivesOn turned.now }
 {

@@ -19,8 +19,8 @@ ghost use Rattle.lua_machine.specs.Events.{MachineOf, GoesFrom, stop_seen, funds
 use crate::event::{Answer, Event};
 use crate::going::advance;
 use lua_blocks::{
-    Activations, ByTitle, Codes, Focus, Given, Jump, Left, Stack, State, Steps, Values, World,
-    boxed,
+    Activations, ByTitle, Codes, Focus, Frames, Given, Jump, Left, Stack, State, Steps, Values,
+    World, boxed,
 };
 use lua_code::NoMemory;
 use lua_environment::environment;
@@ -137,7 +137,7 @@ fn fresh_state<'m>(
     let env = environment(store)?;
     let scenes = Scenes::new(alloc, store, seed)?;
     Ok(State {
-        frames: Stack::new(alloc),
+        frames: Frames::new(alloc),
         regs: Stack::new(alloc),
         functions: Activations::new(alloc),
         env,

@@ -22,7 +22,7 @@ pub mod texts;
 pub use loading::{data_answer, load_data};
 pub use lua_state::{
     Asked, Ending, Focus, Frame, Given, InRun, Jump, Outcome, Parent, Pending, SceneFrame, Scenes,
-    Stack, State, Turn, Values, Work, boxed, call, enter_call, fail, fail_quoting, finish, handler,
+    State, Turn, Values, Work, boxed, call, enter_call, fail, fail_quoting, finish, handler,
     index_table, is_function, is_nil, make_frame, pay, pay_args,
 };
 pub use requiring::{module_answer, require, require_module};

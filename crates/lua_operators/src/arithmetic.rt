@@ -14,7 +14,7 @@ ghost use Rattle.lua_arms.specs.Steps.{step_seen, StepOf};
 
 use crate::handlers::by_either;
 use lua_arms::numbers::number_in;
-use lua_arms::{Environment, Failure, Focus, Frame, Given, Stack, Step, Store, TextId, Value};
+use lua_arms::{Environment, Failure, Focus, Frames, Given, Step, Store, TextId, Value};
 use lua_code::{Arithmetic, NoMemory};
 use lua_number::{NumberFault, neg};
 use std::alloc::Global;
@@ -63,7 +63,7 @@ pub fn calculate<'m>(
     alloc: Global,
     store: &Store,
     env: &Environment,
-    frames: &mut Stack<Frame<'m>>,
+    frames: &mut Frames<'m>,
     op: Arithmetic,
     operands: (Value, Value),
     line: Option<u32>,
@@ -101,7 +101,7 @@ pub fn negate<'m>(
     alloc: Global,
     store: &Store,
     env: &Environment,
-    frames: &mut Stack<Frame<'m>>,
+    frames: &mut Frames<'m>,
     value: Value,
     line: Option<u32>,
 ) -> Result<Step<'m>, NoMemory>

@@ -14,7 +14,7 @@ use lua_arms::calls::call;
 use lua_arms::index::two;
 use lua_arms::tables::common_handler;
 use lua_arms::{
-    Environment, Failure, Focus, Frame, Given, InExpression, Stack, Step, Store, Value, is_nil,
+    Environment, Failure, Focus, Frame, Frames, Given, InExpression, Step, Store, Value, is_nil,
 };
 use lua_code::NoMemory;
 use std::alloc::Global;
@@ -33,7 +33,7 @@ fn truth_by<'m>(
     alloc: Global,
     store: &Store,
     env: &Environment,
-    frames: &mut Stack<Frame<'m>>,
+    frames: &mut Frames<'m>,
     negated: bool,
     handler: Value,
     operands: (Value, Value),
@@ -64,7 +64,7 @@ pub fn equals<'m>(
     alloc: Global,
     store: &Store,
     env: &Environment,
-    frames: &mut Stack<Frame<'m>>,
+    frames: &mut Frames<'m>,
     negated: bool,
     operands: (Value, Value),
     line: Option<u32>,
@@ -92,7 +92,7 @@ fn less_by<'m>(
     alloc: Global,
     store: &Store,
     env: &Environment,
-    frames: &mut Stack<Frame<'m>>,
+    frames: &mut Frames<'m>,
     handler: Value,
     operands: (Value, Value),
     line: Option<u32>,
@@ -120,7 +120,7 @@ fn not_less_by<'m>(
     alloc: Global,
     store: &Store,
     env: &Environment,
-    frames: &mut Stack<Frame<'m>>,
+    frames: &mut Frames<'m>,
     handler: Value,
     operands: (Value, Value),
     line: Option<u32>,
@@ -149,7 +149,7 @@ fn at_most_by<'m>(
     alloc: Global,
     store: &Store,
     env: &Environment,
-    frames: &mut Stack<Frame<'m>>,
+    frames: &mut Frames<'m>,
     at_most: Value,
     less: Value,
     operands: (Value, Value),
@@ -179,7 +179,7 @@ pub fn less_by_handler<'m>(
     alloc: Global,
     store: &Store,
     env: &Environment,
-    frames: &mut Stack<Frame<'m>>,
+    frames: &mut Frames<'m>,
     operands: (Value, Value),
     line: Option<u32>,
 ) -> Result<Step<'m>, NoMemory>
@@ -203,7 +203,7 @@ pub fn at_most_by_handler<'m>(
     alloc: Global,
     store: &Store,
     env: &Environment,
-    frames: &mut Stack<Frame<'m>>,
+    frames: &mut Frames<'m>,
     operands: (Value, Value),
     line: Option<u32>,
 ) -> Result<Step<'m>, NoMemory>

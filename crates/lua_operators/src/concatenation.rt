@@ -16,7 +16,7 @@ ghost use Rattle.lua_arms.specs.Paid.{paid_seen, PaidOf, IfSpent};
 
 use crate::handlers::by_either;
 use lua_arms::{
-    Environment, Failure, Focus, Frame, Given, Left, Paid, Stack, Step, Store, Value, text_in,
+    Environment, Failure, Focus, Frames, Given, Left, Paid, Step, Store, Value, text_in,
 };
 use lua_code::NoMemory;
 use page_run::Which;
@@ -69,7 +69,7 @@ pub fn concatenate<'m>(
     store: &mut Store,
     env: &Environment,
     left: &mut Left,
-    frames: &mut Stack<Frame<'m>>,
+    frames: &mut Frames<'m>,
     operands: (Value, Value),
     line: Option<u32>,
 ) -> Result<Paid<'m>, NoMemory>

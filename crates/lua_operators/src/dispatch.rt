@@ -17,7 +17,7 @@ use crate::comparison::{answer, equals};
 use crate::concatenation::concatenate;
 use crate::lengths::length_of;
 use crate::ordering::{at_most, less};
-use lua_arms::{Environment, Frame, Left, Paid, Stack, Store, Value, is_true};
+use lua_arms::{Environment, Frames, Left, Paid, Store, Value, is_true};
 use lua_code::{NoMemory, Operator};
 use lua_syntax::UnaryOp;
 use std::alloc::Global;
@@ -28,7 +28,7 @@ fn compare_or_calculate<'m>(
     store: &Store,
     env: &Environment,
     left: &mut Left,
-    frames: &mut Stack<Frame<'m>>,
+    frames: &mut Frames<'m>,
     op: Operator,
     operands: (Value, Value),
     line: Option<u32>,
@@ -99,7 +99,7 @@ pub fn operate<'m>(
     store: &mut Store,
     env: &Environment,
     left: &mut Left,
-    frames: &mut Stack<Frame<'m>>,
+    frames: &mut Frames<'m>,
     op: Operator,
     operands: (Value, Value),
     line: Option<u32>,
@@ -129,7 +129,7 @@ pub fn apply<'m>(
     store: &mut Store,
     env: &Environment,
     left: &mut Left,
-    frames: &mut Stack<Frame<'m>>,
+    frames: &mut Frames<'m>,
     op: UnaryOp,
     value: Value,
     line: Option<u32>,

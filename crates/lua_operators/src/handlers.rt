@@ -12,7 +12,7 @@ use lua_arms::calls::call;
 use lua_arms::index::two;
 use lua_arms::tables::either_handler;
 use lua_arms::{
-    Environment, Failure, Frame, InExpression, Stack, Step, Store, TextId, Value, is_nil,
+    Environment, Failure, Frame, Frames, InExpression, Step, Store, TextId, Value, is_nil,
 };
 use lua_code::NoMemory;
 use std::alloc::Global;
@@ -22,7 +22,7 @@ pub fn by_handler<'m>(
     alloc: Global,
     store: &Store,
     env: &Environment,
-    frames: &mut Stack<Frame<'m>>,
+    frames: &mut Frames<'m>,
     handler: Value,
     operands: (Value, Value),
     line: Option<u32>,
@@ -54,7 +54,7 @@ pub fn by_either<'m>(
     alloc: Global,
     store: &Store,
     env: &Environment,
-    frames: &mut Stack<Frame<'m>>,
+    frames: &mut Frames<'m>,
     name: TextId,
     operands: (Value, Value),
     line: Option<u32>,

@@ -26,6 +26,6 @@ pub use lua_arms::lists::{choose_operand, list, more_values};
 pub use lua_arms::operands::begin_operands;
 pub use lua_arms::setting::set_entry;
 pub use lua_arms::{
-    ClosureKind, Environment, Focus, Frame, InAssignment, InConstructor, InExpression, Left, Stack,
-    Store, TextId, Value, is_nil, is_true, read, single, text_in,
+    ClosureKind, Environment, Focus, Frame, Frames, InAssignment, InConstructor, InExpression,
+    Left, Store, TextId, Value, is_nil, is_true, read, single, text_in,
 };

@@ -14,7 +14,7 @@ ghost use Rattle.lua_arms.specs.Paid.{paid_seen, PaidOf};
 ghost use Rattle.lua_operators.specs.Orders.{order_as};
 
 use crate::comparison::{answer, at_most_by_handler, less_by_handler};
-use lua_arms::{Environment, Frame, Left, Paid, Stack, Store, TextId, Value};
+use lua_arms::{Environment, Frames, Left, Paid, Store, TextId, Value};
 use lua_code::NoMemory;
 use page_run::Which;
 use std::alloc::Global;
@@ -130,7 +130,7 @@ pub fn less<'m>(
     store: &Store,
     env: &Environment,
     left: &mut Left,
-    frames: &mut Stack<Frame<'m>>,
+    frames: &mut Frames<'m>,
     operands: (Value, Value),
     line: Option<u32>,
 ) -> Result<Paid<'m>, NoMemory>
@@ -160,7 +160,7 @@ pub fn at_most<'m>(
     store: &Store,
     env: &Environment,
     left: &mut Left,
-    frames: &mut Stack<Frame<'m>>,
+    frames: &mut Frames<'m>,
     operands: (Value, Value),
     line: Option<u32>,
 ) -> Result<Paid<'m>, NoMemory>

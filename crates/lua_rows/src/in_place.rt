@@ -26,8 +26,8 @@ use lua_calls::gsubs::go_from;
 use lua_calls::{Begun, Stop, Turn};
 use lua_code::{Expression, List, NoMemory, Statement};
 use lua_turns::{
-    Ending, Frame, InExpression, InStatement, Left, Next, Slot, Stack, State, Steps, Store, Value,
-    Values, leave_call, only, open, open_all, single,
+    Ending, Frame, Frames, InExpression, InStatement, Left, Next, Slot, Stack, State, Steps, Store,
+    Value, Values, leave_call, only, open, open_all, single,
 };
 use std::alloc::Global;
 use std::sync::ledger::Ledger;
@@ -214,7 +214,7 @@ pub fn call_statement<'m, L: Ledger>(
 /// A declaration waits for the values of its one expression: a frame for the end of its list, above the one that declares.
 fn wait_to_declare<'m>(
     alloc: Global,
-    frames: &mut Stack<Frame<'m>>,
+    frames: &mut Frames<'m>,
     flags: &'m [bool],
     rest: &'m [Statement],
 ) -> Result<(), NoMemory>

@@ -22,8 +22,8 @@ ghost use Rattle.lua_modules.specs.LuaMeaningCharges.{run_charge};
 use lua_code::NoMemory;
 use lua_modules::messages::no_data_module;
 use lua_modules::{
-    Frame, InRun, Parent, SceneFrame, Scenes, Stack, State, Turn, Work, fail, make_frame, pay,
-    pay_args, require_module, run_text,
+    Frame, InRun, Parent, SceneFrame, Scenes, State, Turn, Work, fail, make_frame, pay, pay_args,
+    require_module, run_text,
 };
 use lua_store::{Store, TableId, Value};
 use mw_frame::{Arg, Bytes, Job, Scene, Title};
@@ -73,16 +73,8 @@ fn make_first(
     Ok(table)
 }
 
-/// With no item.
-fn empty<T: Drop>(alloc: Global, items: &mut Stack<T>)
-    ensures { items.new ≡ [] }
-{
-    *items = Stack::new(alloc);
-}
-
 /// The run waits for the value of its module alone, whose function of this name gets this frame.
 fn wait_for_module(
-    alloc: Global,
     store: &Store,
     state: &mut State<'_>,
     function: Bytes,
@@ -94,7 +86,7 @@ fn wait_for_module(
     ensures same { OnOk result (state.new ≡ record state.old { frames = state.new.frames }) }
     ensures frames { OnOk result (frames_of store.now state.new ≡ point.ModuleFound function (kind.Table frame.at) ∷ []) }
 {
-    empty(alloc, &mut state.frames);
+    state.frames.clear();
     let waiting = InRun::ModuleFound(function, Value::Table(frame));
     state.frames.push(Frame::Run(waiting))?;
     Ok(())
@@ -116,7 +108,7 @@ fn invoke_paid<'m>(
 {
     let title = job.module;
     let frame = make_first(alloc, store, state, job.scene, job.parent)?;
-    wait_for_module(alloc, store, state, job.function, frame)?;
+    wait_for_module(store, state, job.function, frame)?;
     let name = title.text()?;
     let text = name.as_slice();
     let turn = require_module(alloc, store, left, state, text, &title, None)?;
@@ -195,13 +187,13 @@ fn run_data<'m>(
 }
 
 /// The run waits for the value of a data module alone.
-fn wait_for_data(alloc: Global, store: &Store, state: &mut State<'_>) -> Result<(), NoMemory>
+fn wait_for_data(store: &Store, state: &mut State<'_>) -> Result<(), NoMemory>
     requires { StateOf store.now state.old }
     ensures of { OnOk result (StateOf store.now state.new) }
     ensures same { OnOk result (state.new ≡ record state.old { frames = state.new.frames }) }
     ensures frames { OnOk result (frames_of store.now state.new ≡ point.DataNow ∷ []) }
 {
-    empty(alloc, &mut state.frames);
+    state.frames.clear();
     state.frames.push(Frame::Run(InRun::DataNow))?;
     Ok(())
 }
@@ -221,7 +213,7 @@ fn load<'m>(
     if !pay(left, RUN_CHARGE) {
         return Ok(Turn::Spent(Which::Steps));
     }
-    wait_for_data(alloc, store, state)?;
+    wait_for_data(store, state)?;
     let turn = run_data(alloc, store, left, state, title)?;
     Ok(turn)
 }

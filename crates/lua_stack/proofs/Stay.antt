@@ -29,7 +29,6 @@ use Rattle.lua_stack.specs.declared.frame.InConstructor.TheVariants as in_constr
 use Rattle.lua_stack.specs.declared.frame.InAssignment.{InAssignment}
 use Rattle.lua_stack.specs.declared.frame.InAssignment.TheVariants as in_assignment
 use Rattle.lua_stack.specs.declared.frame.InStatement.{InStatement}
-use Rattle.lua_stack.specs.declared.frame.InStatement.TheVariants as in_statement
 use Rattle.lua_stack.specs.declared.frame.InLoop.{InLoop}
 use Rattle.lua_stack.specs.declared.frame.InLoop.TheVariants as in_loop
 use Rattle.lua_stack.specs.declared.frame.Ending.{Ending}

@@ -6,6 +6,7 @@ pub use Rattle.lua_store.specs.declared.ids.ClosureId as LuaStoreDeclaredIdsClos
 pub use Rattle.lua_store.specs.declared.ids.TextId as LuaStoreDeclaredIdsTextId
 pub use Rattle.page_run.specs.State as PageRunState
 pub mod Lists
+pub mod FrameCode
 pub mod Seen
 pub mod Of
 pub mod Levels

@@ -13,13 +13,3 @@ pub fn boxed<T: Drop>(alloc: Global, value: T) -> Result<Box<T>, NoMemory>
         Err(_) => Err(NoMemory),
     }
 }
-
-/// Memory ran out, and a value is let go of. (Where a `?` is passed while a large value is held, each of its parts would be a local of the
-/// function, cleared at each call.)
-#[cold]
-#[inline(never)]
-pub fn give_up<T: Drop>(value: T) -> NoMemory
-    ensures { result ≡ record {} }
-{
-    NoMemory
-}

@@ -1,10 +1,12 @@
 //! What the machine does next.
+ghost use Rattle.std.specs.Prelude.{◌≡◌};
+
 use crate::frame::{Found, Setting, Thing};
 use crate::stack::Stack;
 use crate::values::{Given, Values};
 use lua_code::{Expression, Statement, Target};
 use lua_store::{TextId, Value};
-use mw_frame::{Ask, Job, List, Title};
+use mw_frame::{Ask, Job, List, NoMemory, Title};
 
 /// What passes frames by: a `return` with its values, a `break`, and an error with its value (manual 2.4.4 and 2.7).
 #[derive(Drop)]
@@ -43,4 +45,16 @@ pub enum Focus<'m> {
     Asks(Box<Ask>),
     /// A run is to begin.
     Works(Box<Work>),
+}
+
+impl<'m> Focus<'m> {
+    /// Memory ran out, and what was to be next is let go of. (Where a `?` is passed while it is held, each of its parts would be a local of
+    /// the function, cleared at each call; and its drop would be proved there once more.)
+    #[cold]
+    #[inline(never)]
+    pub fn give_up(self) -> NoMemory
+        ensures { result ≡ record {} }
+    {
+        NoMemory
+    }
 }

@@ -3,6 +3,7 @@
 //! - `stack`: a list of which the newest item is at hand
 //! - `values`: values in flight
 //! - `frame`: what waits, and what begins
+//! - `frames`: all that waits, the newest first
 //! - `focus`: what the machine does next
 //! - `boxes`: a box for what is rare or large, so that what is handed from move to move stays small
 //! - `register`: local variables, in registers and in cells
@@ -21,6 +22,7 @@ pub mod boxes;
 pub mod environment;
 pub mod focus;
 pub mod frame;
+pub mod frames;
 pub mod laws;
 pub mod opening;
 pub mod raising;
@@ -29,13 +31,14 @@ pub mod stack;
 pub mod values;
 
 pub use activation::{Activation, Activations, Callee, Level};
-pub use boxes::{boxed, give_up};
+pub use boxes::boxed;
 pub use environment::Environment;
 pub use focus::{Focus, Jump, Work};
 pub use frame::{
     Asked, EachLoop, Ending, Finding, Found, Frame, InAssignment, InConstructor, InExpression,
     InLoop, InRun, InStatement, Pending, Setting, Thing,
 };
+pub use frames::Frames;
 pub use lua_store::ClosureId;
 pub use page_run::Which;
 pub use raising::Raising;

@@ -42,10 +42,10 @@ pub use lua_arms::statements::{branches, within};
 pub use lua_arms::tables::{common_handler, handler};
 pub use lua_arms::{
     Activations, Asked, Callee, ClosureId, ClosureKind, ENTRY_CHARGE, EachLoop, Ending,
-    Environment, Finding, Focus, Found, Frame, Given, InAssignment, InExpression, InLoop, InRun,
-    InStatement, Jump, Level, LuaStackRegisterSlot as Slot, Pending, Raising, Setting, Stack, Step,
-    Thing, Values, Work, boxed, captures, give_up, is_function, is_nil, is_true, open, open_all,
-    raise_text, read, write,
+    Environment, Finding, Focus, Found, Frame, Frames, Given, InAssignment, InExpression, InLoop,
+    InRun, InStatement, Jump, Level, LuaStackRegisterSlot as Slot, Pending, Raising, Setting,
+    Stack, Step, Thing, Values, Work, boxed, captures, is_function, is_nil, is_true, open,
+    open_all, raise_text, read, write,
 };
 pub use lua_titled::{ByTitle, Steps};
 pub use mw_frames::merging::merge_args;

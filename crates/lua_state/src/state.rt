@@ -1,7 +1,7 @@
 //! What a machine holds beside the store.
 use crate::codes::Codes;
 use crate::progress::Progress;
-use lua_arms::{Activations, Environment, Frame, LuaStackSlot as Slot, Stack};
+use lua_arms::{Activations, Environment, Frames, LuaStackSlot as Slot, Stack};
 use lua_titled::ByTitle;
 use mw_frames::{Scenes, Value};
 
@@ -9,7 +9,7 @@ use mw_frames::{Scenes, Value};
 #[derive(Drop)]
 pub struct State<'m> {
     /// What waits for an outcome.
-    pub frames: Stack<Frame<'m>>,
+    pub frames: Frames<'m>,
     /// Local variables.
     pub regs: Stack<Slot>,
     /// The functions of Lua in progress.

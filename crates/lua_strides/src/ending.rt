@@ -54,7 +54,6 @@ pub fn wait_within<'m>(
 ) -> Result<Option<Next<'m>>, NoMemory>
     ensures { (s : StoreView) (p : Point) (n : ℕ) (l l' : Allowance) (k k' : ℕ) → Ready s state.old p n (focus_of next.entry) (inner.entry ∷ outer.entry ∷ state.old.frames) → PaysNodes n l k l' k' true → IfOk result (MayStride s state.old p l k s state.new l' k') }
 {
-    state.frames.push(outer)?;
-    state.frames.push(inner)?;
+    state.frames.push_two(outer, inner)?;
     Ok(Some(next))
 }

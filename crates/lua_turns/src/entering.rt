@@ -21,8 +21,10 @@ ghost use Rattle.lua_turns.specs.Rows.{Follows, IsNewest};
 
 use crate::waiting::{drop_newest, swap_newest};
 use lua_code::{NoMemory, Proto};
-use lua_loops::{Activations, Callee, Ending, Slot, State, Steps, Values, enter_call, open_all};
-use lua_operators::{ClosureKind, Frame, Left, Stack, Store, Value};
+use lua_loops::{
+    Activations, Callee, Ending, Slot, Stack, State, Steps, Values, enter_call, open_all,
+};
+use lua_operators::{ClosureKind, Frame, Left, Store, Value};
 use lua_strides::{ClosureId, Next};
 use std::alloc::Global;
 use std::sync::ledger::Ledger;

@@ -7,8 +7,7 @@ ghost use Rattle.lua_operators.specs.LuaStackSeen.{activations_seen, registers_s
 ghost use Rattle.lua_operators.specs.LuaStoreSeen.{StoreView};
 
 use lua_loops::leaving::keep_oldest;
-use lua_loops::{Activations, Slot};
-use lua_operators::Stack;
+use lua_loops::{Activations, Slot, Stack};
 
 /// The newest function is left. It had so many registers below its own.
 fn leave_newest(functions: &mut Activations) -> usize

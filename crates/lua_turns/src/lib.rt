@@ -47,10 +47,10 @@ pub mod statements;
 pub mod waiting;
 
 pub use lua_loops::{
-    Ending, Slot, State, Steps, Values, count_turn, each_turn, enter_body, enter_call, give_end,
-    give_loop, leave_call, open, open_all, pass_end, repeat_turn, while_turn,
+    Ending, Slot, Stack, State, Steps, Values, count_turn, each_turn, enter_body, enter_call,
+    give_end, give_loop, leave_call, open, open_all, pass_end, repeat_turn, while_turn,
 };
-pub use lua_operators::{Focus, Frame, InExpression, Left, Stack, Store, Value, single};
+pub use lua_operators::{Focus, Frame, Frames, InExpression, Left, Store, Value, single};
 pub use lua_strides::ending::pay_nodes;
 pub use lua_strides::reading::{LEVELS, read};
 pub use lua_strides::running::variable;

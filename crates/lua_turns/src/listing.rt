@@ -1,11 +1,8 @@
 //! Lists of expressions that are not read in place, as arguments of a call (manual 2.5 and 2.5.8).
 ghost use Rattle.std.specs.Prelude.{◌≡◌, ◌∷◌, [], List as Items, IfOk, MatchOption};
 ghost use Rattle.lua_loops.specs.PageRunOutcome.{Goes};
-ghost use Rattle.std.specs.Borrow.{Bor};
-ghost use Rattle.lua_code.specs.declared.expression.Expression.{Expression as ExpressionValue};
 ghost use Rattle.lua_code.specs.Seen.{expressions_seen};
 ghost use Rattle.lua_operators.specs.LuaSlotsPoints.{Gives, Lists};
-ghost use Rattle.lua_strides.specs.LuaStackDeclaredFrameFrame.{Frame as FrameValue};
 ghost use Rattle.lua_operators.specs.LuaStackDeclaredFrameFrameTheVariants as frame_kind;
 ghost use Rattle.lua_operators.specs.LuaStackDeclaredFrameInExpressionTheVariants as in_expression;
 ghost use Rattle.lua_operators.specs.LuaStackOf.{ValuesOf};
@@ -22,7 +19,7 @@ use crate::calling::give_all;
 use crate::waiting::swap_newest;
 use lua_code::{Expression, List, NoMemory};
 use lua_loops::{State, Steps, Values};
-use lua_operators::{Frame, InExpression, Left, Stack, Store, Value};
+use lua_operators::{Frame, InExpression, Left, Store, Value};
 use lua_strides::Next;
 use lua_strides::ending::pay_nodes;
 use lua_strides::reading::{LEVELS, read};
@@ -154,17 +151,6 @@ pub fn take_callee<'m, L: Ledger>(
     list(alloc, store, left, state, arguments.as_slice(), none, turns)
 }
 
-/// The values before of the list that waits in the newest frame, which waits no more.
-fn take_before<'m>(frames: &mut Stack<Frame<'m>>) -> Values
-    requires { (rest : Bor (Items ExpressionValue)) × (before : Items Stored) × IsNewest frames.old (frame_kind.Expression (in_expression.MoreNext rest before)) }
-    ensures { (rest : Bor (Items ExpressionValue)) (before : Items Stored) (more : Items FrameValue) → frames.old ≡ frame_kind.Expression (in_expression.MoreNext rest before) ∷ more → (result ≡ before) × (frames.new ≡ more) }
-{
-    match frames.pop() {
-        Some(Frame::Expression(InExpression::MoreNext(_, before))) => before,
-        _ => unreachable!(),
-    }
-}
-
 /// An expression of a list has its value: the next one is evaluated, or the list has its values.
 pub fn take_item<'m, L: Ledger>(
     alloc: Global,
@@ -180,7 +166,7 @@ pub fn take_item<'m, L: Ledger>(
     requires value { IsOf store.old value }
     ensures { IfOk result (MustFollow store.old state.old (Gives (Goes (seen store.old.texts value ∷ [])) (frames_of store.old state.old)) left.old turns.old store.new state.new left.new turns.new) }
 {
-    let mut before = take_before(&mut state.frames);
+    let mut before = state.frames.take_before();
     before.add(value)?;
     match front_of(rest) {
         Some(_) => list(alloc, store, left, state, rest, before, turns),

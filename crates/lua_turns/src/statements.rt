@@ -18,7 +18,7 @@ ghost use Rattle.lua_turns.specs.Assigning.{IsFoundAt};
 
 use lua_code::{Branch, Expression, List, NoMemory, Statement};
 use lua_loops::{InLoop, State, Steps, Values};
-use lua_operators::{Frame, InAssignment, InExpression, Left, Stack};
+use lua_operators::{Frame, Frames, InAssignment, InExpression, Left};
 use lua_strides::ending::{pay_nodes, wait_for, wait_within};
 use lua_strides::{Found, InStatement, Next};
 use std::alloc::Global;
@@ -94,7 +94,7 @@ pub fn begin_if<'m, L: Ledger>(
 /// A list of one value begins, for which this frame waits.
 fn wait_for_one<'m>(
     alloc: Global,
-    frames: &mut Stack<Frame<'m>>,
+    frames: &mut Frames<'m>,
     none: &'m [Expression],
 ) -> Result<(), NoMemory>
     ensures { OnOk result (frames.new ≡ frame_kind.Expression (in_expression.MoreNext none.entry []) ∷ frames.old) }
@@ -141,7 +141,7 @@ fn one_target(alloc: Global, target: Found) -> Result<List<Found>, NoMemory>
 /// One value is evaluated for this target, and then these statements follow. `none` is the end of the list of values.
 pub(crate) fn wait_to_assign<'m>(
     alloc: Global,
-    frames: &mut Stack<Frame<'m>>,
+    frames: &mut Frames<'m>,
     target: Found,
     none: &'m [Expression],
     rest: &'m [Statement],

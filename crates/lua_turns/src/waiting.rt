@@ -10,7 +10,7 @@ ghost use Rattle.lua_turns.specs.Waiting.{Waits};
 
 use lua_code::{Branch, Expression, List, Operator, Statement};
 use lua_loops::{Ending, InLoop, Values};
-use lua_operators::{Frame, InAssignment, InExpression, Stack, TextId, Value};
+use lua_operators::{Frame, Frames, InAssignment, InExpression, TextId, Value};
 use lua_strides::{Found, InStatement};
 use lua_syntax::UnaryOp;
 
@@ -199,7 +199,7 @@ fn of_frame<'m>(frame: &Frame<'m>) -> Waiting<'m>
 }
 
 /// What waits in the newest frame.
-pub fn of_newest<'m>(frames: &Stack<Frame<'m>>) -> Waiting<'m>
+pub fn of_newest<'m>(frames: &Frames<'m>) -> Waiting<'m>
     ensures { Waits frames.now result }
 {
     match frames.get(0) {
@@ -209,7 +209,7 @@ pub fn of_newest<'m>(frames: &Stack<Frame<'m>>) -> Waiting<'m>
 }
 
 /// The newest frame waits no more.
-pub fn drop_newest<'m>(frames: &mut Stack<Frame<'m>>)
+pub fn drop_newest<'m>(frames: &mut Frames<'m>)
     ensures { (f : FrameValue) (more : Items FrameValue) → frames.old ≡ f ∷ more → frames.new ≡ more }
 {
     let count = frames.len();
@@ -217,7 +217,7 @@ pub fn drop_newest<'m>(frames: &mut Stack<Frame<'m>>)
 }
 
 /// Another frame waits in the place of the newest one.
-pub fn swap_newest<'m>(frames: &mut Stack<Frame<'m>>, frame: Frame<'m>)
+pub fn swap_newest<'m>(frames: &mut Frames<'m>, frame: Frame<'m>)
     ensures { (f : FrameValue) (more : Items FrameValue) → frames.old ≡ f ∷ more → frames.new ≡ frame.entry ∷ more }
 {
     frames.set(0, frame);

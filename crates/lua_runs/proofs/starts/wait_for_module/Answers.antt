@@ -9,7 +9,7 @@ use Rattle.lua_runs.proofs.starts.wait_for_module.Goals as goal
 pub returns-clause-of : goal.returns-clause-of
 returns-clause-of c =
     with_frames_of c.args.store.now c.args.state.now c.push.new.self c.requires.state
-    (subst (FramesOf c.args.store.now) (sym (only c.push.new.self _ _ c.in_ok-push.ensures.ok c.empty.ensures)) (c.requires.frame, tt))
+    (subst (FramesOf c.args.store.now) (sym (only c.push.new.self _ _ c.in_ok-push.ensures.ok c.clear.ensures)) (c.requires.frame, tt))
 
 pub returns-clause-frames : goal.returns-clause-frames
-returns-clause-frames c = ap (λ (fs : List Frame). frames_seen c.args.store.now.texts fs) (only c.push.new.self _ _ c.in_ok-push.ensures.ok c.empty.ensures)
+returns-clause-frames c = ap (λ (fs : List Frame). frames_seen c.args.store.now.texts fs) (only c.push.new.self _ _ c.in_ok-push.ensures.ok c.clear.ensures)

@@ -12,7 +12,7 @@ use Rattle.lua_turns.proofs.Listed.{item_taken, items_taken}
 use Rattle.lua_turns.proofs.listing.take_item.Goals as goal
 
 pub take_before-before-requires : goal.take_before-before-requires
-take_before-before-requires g c = (c.args.rest, c.requires.newest.0, c.requires.newest.1)
+take_before-before-requires g c = (c.args.rest, c.requires.newest.0, c.requires.newest.1.0, c.requires.newest.1.1)
 
 pub list-requires-clause-state : goal.list-requires-clause-state
 list-requires-clause-state g c =
@@ -42,7 +42,7 @@ returns-in-Some g c =
     let more = c.requires.newest.1.0 in
     let taken = c.take_before-before.ensures c.args.rest before more c.requires.newest.1.1 in
     let added = c.in_ok-add.ensures.ok ∙ ap (λ (vs : List Value). vs ++ c.args.value ∷ []) taken.0 in
-    then_must s m (Gives (Goes (seen s.texts c.args.value ∷ [])) (frames_of s m)) c.args.left.now c.args.turns.now s (with_parts m c.take_before-before.new.frames m.regs m.functions) c.args.left.now c.args.turns.now (focus.Lists c.args.rest c.add.new.self)
+    then_must s m (Gives (Goes (seen s.texts c.args.value ∷ [])) (frames_of s m)) c.args.left.now c.args.turns.now s (with_parts m c.take_before-before.new.self m.regs m.functions) c.args.left.now c.args.turns.now (focus.Lists c.args.rest c.add.new.self)
     c.list.new.store c.list.new.state c.list.new.left c.list.new.turns c.list.result (rw taken.1 (item_taken s m c.args.left.now c.args.turns.now c.args.rest c.args.value before c.add.new.self more c.in-Some.field-0.first.now c.in-Some.field-0.rest.now c.requires.state c.requires.value c.requires.newest.1.1 added c.in-Some.ensures)) c.list.ensures
 
 pub give_all-requires-clause-state : goal.give_all-requires-clause-state
@@ -73,5 +73,5 @@ returns-in-None g c =
     let more = c.requires.newest.1.0 in
     let taken = c.take_before-before.ensures c.args.rest before more c.requires.newest.1.1 in
     let added = c.in_ok-add.ensures.ok ∙ ap (λ (vs : List Value). vs ++ c.args.value ∷ []) taken.0 in
-    then_must s m (Gives (Goes (seen s.texts c.args.value ∷ [])) (frames_of s m)) c.args.left.now c.args.turns.now s (with_parts m c.take_before-before.new.frames m.regs m.functions) c.args.left.now c.args.turns.now (focus.Gives (given.Many c.add.new.self))
+    then_must s m (Gives (Goes (seen s.texts c.args.value ∷ [])) (frames_of s m)) c.args.left.now c.args.turns.now s (with_parts m c.take_before-before.new.self m.regs m.functions) c.args.left.now c.args.turns.now (focus.Gives (given.Many c.add.new.self))
     c.give_all.new.store c.give_all.new.state c.give_all.new.left c.give_all.new.turns c.give_all.result (rw taken.1 (items_taken s m c.args.left.now c.args.turns.now c.args.rest c.args.value before c.add.new.self more c.requires.state c.requires.value c.requires.newest.1.1 added c.in-None.ensures)) c.give_all.ensures
