@@ -1,7 +1,7 @@
 -- The pages may be lent to threads, which share them: from their parts.
 use denote.Param.Send.{IsSync, sendable}
 use Rattle.std.proofs.Crossing.{crosses}
-use Rattle.wiki_pages.specs.contracts.cases.CaseTable as CaseTable
+use Rattle.wiki_pages.specs.contracts.tables.CaseTable as CaseTable
 use Rattle.wiki_pages.specs.contracts.held.HeldText as HeldText
 use Rattle.wiki_pages.specs.contracts.pages.Entry as Entry
 use Rattle.wiki_pages.specs.contracts.pages.PageMap as PageMap

@@ -4,15 +4,14 @@ use Rattle.wiki_markup.specs.Nodes.{Node}
 use Rattle.wiki_markup.specs.Trees.{Trees}
 use Rattle.expand_texts.specs.ExpandMeaningPlaces.{first_in}
 use Rattle.expand_texts.specs.ExpandMeaningExpand.{Looking, switch}
-use Rattle.indexmap.specs.IndexMap.{hasher_of}
 use Rattle.wiki_pages.specs.Stretches.{parts_from}
 use Rattle.wiki_pages.specs.Forests.{nodes_in, trees_in, parts, size, option_size}
-use Rattle.wiki_pages.specs.CaseTables.{constant_name, equals_name, hash_of, Same, Reaches, fresh, stopped, size_in, find_in, IsRight, Lands, LandsBehind}
+use Rattle.wiki_pages.specs.CaseTables.{constant_name, equals_name, hash_of, Same, Reaches, fresh, stopped, size_in, find_among, IsRight, Lands, LandsBehind}
 use Rattle.wiki_pages.specs.Furthers.{known, LeadsTo, GoesTo}
 use Rattle.wiki_pages.specs.declared.forest.Forest.{Forest}
 use Rattle.wiki_pages.specs.declared.cases.Case.{Case}
-use Rattle.wiki_pages.specs.declared.cases.CaseTable.{CaseTable}
-use Rattle.wiki_pages.specs.declared.cases.Landing.{Landing}
+use Rattle.wiki_pages.specs.declared.tables.CaseTable.{CaseTable}
+use Rattle.wiki_pages.specs.declared.tables.Landing.{Landing}
 use Rattle.wiki_pages.specs.declared.passing.Further.{Further}
 use Rattle.wiki_pages.proofs.TableLaws.{parts_are}
 
@@ -26,16 +25,16 @@ pub name_at : (run here part : Forest) (at : ℕ) → nodes_in here.nodes ≡ no
 name_at run here part at n a e f = ap (λ ps. constant_name (first_in ps)) (sym (parts_are here (nodes_in run.nodes) run.end at n e a)) ∙ ap constant_name (sym f)
 
 -- where no name has the value's hash, and behind a part whose name is equal
-pub lands_missed : (x : List ℕ) (nodes : List Node) (at : ℕ) (t : CaseTable) (l : Landing) → IsRight nodes at t → find_in t.cases (hash_of (hasher_of t.cases) x) ≡ None → l ≡ record { met = false; stop = t.stop } → Lands x nodes at t l
-lands_missed x nodes at t l right e is = subst (Lands x nodes at t) (sym is) ((λ d. right.miss x d e), right.light)
+pub lands_missed : (x : List ℕ) (nodes : List Node) (at : ℕ) (t : CaseTable) (l : Landing) → IsRight nodes at t → find_among t.cases.items (hash_of t.seed x) ≡ None → l ≡ record { met = false; stop = t.stop } → Lands x nodes at t l
+lands_missed x nodes at t l right e is = subst (Lands x nodes at t) (sym is) ((λ d. right.right.miss x d e), right.right.light)
 
-pub lands_behind : (x : List ℕ) (nodes : List Node) (at : ℕ) (t : CaseTable) (c : Case) (l : Landing) → IsRight nodes at t → find_in t.cases (hash_of (hasher_of t.cases) x) ≡ Some c → equals_name x (constant_name (first_in (parts_from nodes t.end c.at))) ≡ true
+pub lands_behind : (x : List ℕ) (nodes : List Node) (at : ℕ) (t : CaseTable) (c : Case) (l : Landing) → IsRight nodes at t → find_among t.cases.items (hash_of t.seed x) ≡ Some c → equals_name x (constant_name (first_in (parts_from nodes t.end c.at))) ≡ true
     → LandsBehind (slice_get t.values.items c.group) t.stop l → Lands x nodes at t l
-lands_behind x nodes at t c l right there e lands = by (slice_get t.values.items c.group) refl (λ d. right.hit x d c there e) lands
+lands_behind x nodes at t c l right there e lands = by (slice_get t.values.items c.group) refl (λ d. right.right.hit x d c there e) lands
   where
     by : (o : Option ℕ) → slice_get t.values.items c.group ≡ o → ((d : Trees) → Reaches x nodes t.end at t.stop d o) → LandsBehind o t.stop l → Lands x nodes at t l
-    by (Some value) is reaches lands = let falls : t.end - value ≤ t.end - at = right.falls c.group value is in subst (Lands x nodes at t) (sym lands) (reaches, omega (arith, falls))
-    by None is reaches lands = subst (Lands x nodes at t) (sym lands) (reaches, right.light)
+    by (Some value) is reaches lands = let falls : t.end - value ≤ t.end - at = right.right.falls c.group value is in subst (Lands x nodes at t) (sym lands) (reaches, omega (arith, falls))
+    by None is reaches lands = subst (Lands x nodes at t) (sym lands) (reaches, right.right.light)
 
 pub leads_to : (x : List ℕ) (run : Forest) (t : CaseTable) (l : Landing) (f : Further) → t.end ≡ run.end → Lands x (nodes_in run.nodes) run.at t l → GoesTo run l f → LeadsTo x run f
 leads_to x run t l f e lands g = record {

@@ -1,6 +1,7 @@
 pub mod ForestLaws
 pub mod ConstantLaws
-pub mod SwitchLaws
+pub mod SearchLaws
+mod SwitchLaws
 pub mod CaseLaws
 pub mod TableLaws
 pub mod FurtherLaws

@@ -3,7 +3,6 @@ use Rattle.std.proofs.Common.{◌≡◌, ℕ, ◌+◌, ◌-◌, ◌<◌, ◌≤�
 use Rattle.std.proofs.lemmas.Bool.{eqb-true, and_parts}
 use Rattle.std.proofs.lemmas.Slice.Eq.{bytes_eq-Decides}
 use Rattle.std.specs.declared.random_state.RandomState.{RandomState}
-use Rattle.std.specs.Map.{lookup}
 use Rattle.std.specs.Option.{option_copied}
 use Rattle.std.specs.Borrow.{Bor}
 use Rattle.indexmap.specs.IndexMap.{IndexMap, get, hasher_of}
@@ -15,11 +14,12 @@ use Rattle.expand_texts.specs.ExpandMeaningPlaces.{no_part, value_in}
 use Rattle.expand_texts.specs.ExpandMeaningExpand.{is_default}
 use Rattle.wiki_pages.specs.Stretches.{trees_between, parts_from}
 use Rattle.wiki_pages.specs.Forests.{nodes_in, trees_in, parts, size}
-use Rattle.wiki_pages.specs.CaseTables.{constant_name, size_hash, hash_as, hash_of, Right, find_in, IsRight, AreRight, noted, Notes, Passes}
+use Rattle.wiki_pages.specs.CaseTables.{constant_name, size_hash, hash_as, lower_half, hash_of, Right, find_in, find_among, InOrder, IsRightRun, IsRight, AreRight, noted, Notes, Passes}
 use Rattle.wiki_pages.specs.declared.cases.Case.{Case}
 use Rattle.wiki_pages.specs.declared.cases.Stretch.{Stretch}
 use Rattle.wiki_pages.specs.declared.cases.Stop.{Stop}
-use Rattle.wiki_pages.specs.declared.cases.CaseTable.{CaseTable}
+use Rattle.wiki_pages.specs.declared.cases.CaseRun.{CaseRun}
+use Rattle.wiki_pages.specs.declared.tables.CaseTable.{CaseTable}
 use Rattle.wiki_pages.specs.declared.forest.Forest.{Forest}
 use Rattle.wiki_pages.proofs.CaseLaws.{Alike, valueless_right, valued_right}
 
@@ -33,7 +33,7 @@ same_hash seed None p x y e = absurd cc
 hash_by : (seed : RandomState) (x y : List ℕ) (b : Bool) → bytes_eq x y ≡ b → (b || same_number (number_of x) (number_of y)) ≡ true → hash_of seed x ≡ hash_of seed y
 unfolding hash_of
 hash_by seed x y true b e = ap (hash_of seed) ((bytes_eq-Decides x y).0 b)
-hash_by seed x y false b e = same_hash seed (number_of x) (number_of y) x y e
+hash_by seed x y false b e = ap lower_half (same_hash seed (number_of x) (number_of y) x y e)
 
 pub alike_hash : (seed : RandomState) → Alike (hash_of seed)
 unfolding are_equal
@@ -69,26 +69,26 @@ empty_right hash nodes end at find values none empty = record {
   falls = λ group value e. let n : slice_get values group ≡ None = ap (λ vs. slice_get vs group) empty in absurd cc;
 }
 
-passed : (nodes : List Node) (at : ℕ) (old new : CaseTable) (name values : List ℕ) (stop : Stop) → Passes old new name values stop → Right (hash_of (hasher_of old.cases)) nodes old.end at (find_in new.cases) values stop → IsRight nodes at new
+passed : (nodes : List Node) (at : ℕ) (old new : CaseRun) (name values : List ℕ) (stop : Stop) → Passes old new name values stop → Right (hash_of (hasher_of old.cases)) nodes old.end at (find_in new.cases) values stop → IsRightRun nodes at new
 passed nodes at old new name values stop p r =
     subst (λ s. Right (hash_of s) nodes new.end at (find_in new.cases) new.values.items new.stop) (sym p.hasher)
     (subst (λ e. Right (hash_of (hasher_of old.cases)) nodes e at (find_in new.cases) new.values.items new.stop) (sym p.end)
     (subst (λ vs. Right (hash_of (hasher_of old.cases)) nodes old.end at (find_in new.cases) vs new.stop) (sym p.values)
     (subst (λ s. Right (hash_of (hasher_of old.cases)) nodes old.end at (find_in new.cases) values s) (sym p.stop) r)))
 
-valueless_passed : (nodes : List Node) (at next : ℕ) (old new : CaseTable) (part : Trees) (n : List ℕ)
+valueless_passed : (nodes : List Node) (at next : ℕ) (old new : CaseRun) (part : Trees) (n : List ℕ)
     → Passes old new (trim n) old.values.items (record { at = next; waits = old.stop.waits || is_default (trim n); default = old.stop.default })
     → parts_from nodes old.end old.stop.at ≡ part ∷ parts_from nodes old.end next → constant_name part ≡ Some n → value_in part ≡ None → no_part (parts_from nodes old.end next) ≡ false → old.end - next ≤ old.end - old.stop.at
-    → IsRight nodes at old → IsRight nodes at new
+    → IsRightRun nodes at old → IsRightRun nodes at new
 valueless_passed nodes at next old new part n p first named valueless more light right =
     passed nodes at old new (trim n) old.values.items (record { at = next; waits = old.stop.waits || is_default (trim n); default = old.stop.default }) p
     (valueless_right (hash_of (hasher_of old.cases)) nodes old.end at next (find_in old.cases) (find_in new.cases) old.values.items old.stop part n right (alike_hash (hasher_of old.cases)) p.notes first named valueless more light)
 
-valued_passed : (nodes : List Node) (at next : ℕ) (old new : CaseTable) (part value : Trees) (s : Stretch) (n : List ℕ)
+valued_passed : (nodes : List Node) (at next : ℕ) (old new : CaseRun) (part value : Trees) (s : Stretch) (n : List ℕ)
     → Passes old new (trim n) (old.values.items ++ old.stop.at ∷ []) (record { at = next; waits = false; default = cond (old.stop.waits || is_default (trim n)) (Some s) old.stop.default })
     → parts_from nodes old.end old.stop.at ≡ part ∷ parts_from nodes old.end next → constant_name part ≡ Some n → value_in part ≡ Some value → trees_between nodes s.start s.end ≡ value
     → (old.end - next) + (s.end - s.start) ≤ old.end - old.stop.at
-    → IsRight nodes at old → IsRight nodes at new
+    → IsRightRun nodes at old → IsRightRun nodes at new
 valued_passed nodes at next old new part value s n p first named valued stands light right =
     passed nodes at old new (trim n) (old.values.items ++ old.stop.at ∷ []) (record { at = next; waits = false; default = cond (old.stop.waits || is_default (trim n)) (Some s) old.stop.default }) p
     (valued_right (hash_of (hasher_of old.cases)) nodes old.end at next (find_in old.cases) (find_in new.cases) old.values.items old.stop part n right (alike_hash (hasher_of old.cases)) p.notes first named value s valued stands light)
@@ -115,17 +115,22 @@ pub trees_are : (f : Forest) (nodes : List Node) → nodes_in f.nodes ≡ nodes 
 unfolding trees_in trees_between
 trees_are f nodes n = ap (λ ns. trees_between ns f.at f.end) (sym n)
 
-pub shrunk : (nodes : List Node) (at : ℕ) (old new : CaseTable) → new.cases.entries ≡ old.cases.entries → hasher_of new.cases ≡ hasher_of old.cases → new.values.items ≡ old.values.items → new.stop ≡ old.stop → new.end ≡ old.end → IsRight nodes at old → IsRight nodes at new
-shrunk nodes at old new e h v s z r =
-    subst (λ i. Right (hash_of i) nodes new.end at (find_in new.cases) new.values.items new.stop) (sym h)
-    (subst (λ es. Right (hash_of (hasher_of old.cases)) nodes new.end at (λ y. lookup (nat_eq y) es) new.values.items new.stop) (sym e)
-    (subst (λ vs. Right (hash_of (hasher_of old.cases)) nodes new.end at (find_in old.cases) vs new.stop) (sym v)
-    (subst (λ t. Right (hash_of (hasher_of old.cases)) nodes new.end at (find_in old.cases) old.values.items t) (sym s)
-    (subst (λ n. Right (hash_of (hasher_of old.cases)) nodes n at (find_in old.cases) old.values.items old.stop) (sym z) r))))
+-- the table of a run that is right, with the same cases in order
+pub held_right : (nodes : List Node) (at : ℕ) (run : CaseRun) (t : CaseTable) → t.seed ≡ hasher_of run.cases → ((y : ℕ) → find_among t.cases.items y ≡ find_in run.cases y) → InOrder t.cases.items
+    → t.values.items ≡ run.values.items → t.stop ≡ run.stop → t.end ≡ run.end → IsRightRun nodes at run → IsRight nodes at t
+held_right nodes at run t h f o v s z r = record {
+  right =
+      subst (λ i. Right (hash_of i) nodes t.end at (find_among t.cases.items) t.values.items t.stop) (sym h)
+      (subst (λ g. Right (hash_of (hasher_of run.cases)) nodes t.end at g t.values.items t.stop) (λ i y. sym (f y) i)
+      (subst (λ vs. Right (hash_of (hasher_of run.cases)) nodes t.end at (find_in run.cases) vs t.stop) (sym v)
+      (subst (λ p. Right (hash_of (hasher_of run.cases)) nodes t.end at (find_in run.cases) run.values.items p) (sym s)
+      (subst (λ n. Right (hash_of (hasher_of run.cases)) nodes n at (find_in run.cases) run.values.items run.stop) (sym z) r))));
+  order = o;
+}
 
 -- ---- a part in front of other parts is passed
 
-module _ (part next : Forest) (old new : CaseTable) (n name : List ℕ)
+module _ (part next : Forest) (old new : CaseRun) (n name : List ℕ)
     (first : parts_from (nodes_in next.nodes) old.end old.stop.at ≡ trees_in part ∷ parts next) (amid : nodes_in part.nodes ≡ nodes_in next.nodes) (end : next.end ≡ old.end)
     (falls : size part + size next < old.end - old.stop.at) (named : constant_name (trees_in part) ≡ Some n) (is : name ≡ trim n) where
   next_is : parts next ≡ parts_from (nodes_in next.nodes) old.end next.at
@@ -136,7 +141,7 @@ module _ (part next : Forest) (old new : CaseTable) (n name : List ℕ)
 
   pub part_valueless : value_in (trees_in part) ≡ None → no_part (parts next) ≡ false
       → Passes old new name old.values.items (record { at = next.at; waits = old.stop.waits || is_default name; default = old.stop.default })
-      → (at : ℕ) → IsRight (nodes_in next.nodes) at old → IsRight (nodes_in next.nodes) at new
+      → (at : ℕ) → IsRightRun (nodes_in next.nodes) at old → IsRightRun (nodes_in next.nodes) at new
   part_valueless valueless more p at right =
       valueless_passed (nodes_in next.nodes) at next.at old new (trees_in part) n
       (subst (λ m. Passes old new m old.values.items (record { at = next.at; waits = old.stop.waits || is_default m; default = old.stop.default })) is p)
@@ -144,7 +149,7 @@ module _ (part next : Forest) (old new : CaseTable) (n name : List ℕ)
 
   pub part_valued : (value : Forest) (s : Stretch) → value_in (trees_in part) ≡ Some (trees_in value) → nodes_in value.nodes ≡ nodes_in part.nodes → size value ≤ size part → s ≡ record { start = value.at; end = value.end }
       → Passes old new name (old.values.items ++ old.stop.at ∷ []) (record { at = next.at; waits = false; default = cond (old.stop.waits || is_default name) (Some s) old.stop.default })
-      → (at : ℕ) → IsRight (nodes_in next.nodes) at old → IsRight (nodes_in next.nodes) at new
+      → (at : ℕ) → IsRightRun (nodes_in next.nodes) at old → IsRightRun (nodes_in next.nodes) at new
   part_valued value s valued stays light place p at right =
       let wide : s.end - s.start ≡ size value = ap (λ (t : Stretch). t.end - t.start) place in
       valued_passed (nodes_in next.nodes) at next.at old new (trees_in part) (trees_in value) s n
@@ -152,7 +157,7 @@ module _ (part next : Forest) (old new : CaseTable) (n name : List ℕ)
       (first ∙ ap (λ ps. trees_in part ∷ ps) next_is) named valued (ap (λ (t : Stretch). trees_between (nodes_in next.nodes) t.start t.end) place ∙ trees_are value (nodes_in next.nodes) (stays ∙ amid))
       (omega (arith, left_is, falls, light, wide)) right
 
-pub passed_falls : (part next : Forest) (old new : CaseTable) (name values : List ℕ) (stop : Stop) → Passes old new name values stop → stop.at ≡ next.at → next.end ≡ old.end → size part + size next < old.end - old.stop.at
+pub passed_falls : (part next : Forest) (old new : CaseRun) (name values : List ℕ) (stop : Stop) → Passes old new name values stop → stop.at ≡ next.at → next.end ≡ old.end → size part + size next < old.end - old.stop.at
     → new.end - new.stop.at < old.end - old.stop.at
 passed_falls part next old new name values stop p a e f =
     let here : new.stop.at ≡ next.at = ap (λ (s : Stop). s.at) p.stop ∙ a in

@@ -1,8 +1,11 @@
 -- What a table of constant parts says of going through a `#switch`. The code keeps this of its tables; no contract of this crate's callers
 -- speaks of it.
-use Rattle.std.specs.Prelude.{◌≡◌, ℕ, ◌+◌, ◌-◌, ◌≤◌, Bool, true, false, cond, nat_eq, List, [], length, slice_get, Option, Some, None, fold}
+use Rattle.std.specs.Prelude.{◌≡◌, ℕ, ◌+◌, ◌-◌, ◌%◌, ◌≤◌, Bool, true, false, cond, nat_eq, List, [], length, slice_get, Option, Some, None, fold}
 use Rattle.std.specs.Hash.{u64}
 use Rattle.std.specs.Hash.DefaultHasher as sip
+use Rattle.std.specs.List.{IsDistinct}
+use Rattle.std.specs.List.Sorted.{IsNonDecreasingBy}
+use Rattle.std.specs.Map.{keys_of, lookup}
 use Rattle.std.specs.RandomState.{initial_hasher}
 use Rattle.std.specs.declared.random_state.RandomState.{RandomState}
 use Rattle.indexmap.specs.IndexMap.{IndexMap, get, hasher_of}
@@ -17,8 +20,9 @@ use Rattle.wiki_pages.specs.Stretches.{trees_between, parts_from}
 use Rattle.wiki_pages.specs.declared.cases.Case.{Case}
 use Rattle.wiki_pages.specs.declared.cases.Stretch.{Stretch}
 use Rattle.wiki_pages.specs.declared.cases.Stop.{Stop}
-use Rattle.wiki_pages.specs.declared.cases.CaseTable.{CaseTable}
-use Rattle.wiki_pages.specs.declared.cases.Landing.{Landing}
+use Rattle.wiki_pages.specs.declared.cases.CaseRun.{CaseRun}
+use Rattle.wiki_pages.specs.declared.tables.CaseTable.{CaseTable}
+use Rattle.wiki_pages.specs.declared.tables.Landing.{Landing}
 
 -- ---- names
 
@@ -47,8 +51,12 @@ abbrev pub hash_as : RandomState → Option (Bool × ℕ) → List ℕ → ℕ
 hash_as seed (Some number) name = size_hash seed number.1
 hash_as seed None name = text_hash seed name
 
+-- of 64 bits 32 are kept
+abbrev pub lower_half : ℕ → ℕ
+lower_half hash = hash % 4294967296
+
 unfoldable pub hash_of : RandomState → List ℕ → ℕ
-hash_of seed name = hash_as seed (number_of name) name
+hash_of seed name = lower_half (hash_as seed (number_of name) name)
 
 -- ---- going through parts
 
@@ -90,8 +98,22 @@ pub record Right (hash : List ℕ → ℕ) (nodes : List Node) (end at : ℕ) (f
 abbrev pub find_in : IndexMap ℕ Case RandomState → ℕ → Option Case
 find_in cases y = get nat_eq cases y
 
-abbrev pub IsRight : List Node → ℕ → CaseTable → Type 0
-IsRight nodes at t = Right (hash_of (hasher_of t.cases)) nodes t.end at (find_in t.cases) t.values.items t.stop
+-- of a run that is read
+abbrev pub IsRightRun : List Node → ℕ → CaseRun → Type 0
+IsRightRun nodes at t = Right (hash_of (hasher_of t.cases)) nodes t.end at (find_in t.cases) t.values.items t.stop
+
+-- cases with their hashes: in order of these, each of which comes once
+pub record InOrder (cases : List (ℕ × Case)) : Type 0 where
+  pub rising : IsNonDecreasingBy (λ c. c.0) cases
+  pub distinct : IsDistinct nat_eq (keys_of cases)
+
+abbrev pub find_among : List (ℕ × Case) → ℕ → Option Case
+find_among cases y = lookup (nat_eq y) cases
+
+-- of a table that is held
+pub record IsRight (nodes : List Node) (at : ℕ) (t : CaseTable) : Type 0 where
+  pub right : Right (hash_of t.seed) nodes t.end at (find_among t.cases.items) t.values.items t.stop
+  pub order : InOrder t.cases.items
 
 -- all tables of a text are
 abbrev pub AreRight : List Node → IndexMap ℕ CaseTable RandomState → Type 0
@@ -112,7 +134,7 @@ abbrev pub Notes : (ℕ → Option Case) → (ℕ → Option Case) → ℕ → C
 Notes old new y c = (q : ℕ) → new q ≡ noted (old q) (nat_eq y q) c
 
 -- the part at the stop has this name
-pub record Passes (old new : CaseTable) (name all_values : List ℕ) (next_stop : Stop) : Type 0 where
+pub record Passes (old new : CaseRun) (name all_values : List ℕ) (next_stop : Stop) : Type 0 where
   pub hasher : hasher_of new.cases ≡ hasher_of old.cases
   pub notes : Notes (find_in old.cases) (find_in new.cases) (hash_of (hasher_of old.cases) name) (record { at = old.stop.at; group = length old.values.items })
   pub end : new.end ≡ old.end

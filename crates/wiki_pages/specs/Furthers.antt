@@ -6,7 +6,7 @@ use Rattle.wiki_pages.specs.Stretches.{parts_from}
 use Rattle.wiki_pages.specs.Forests.{nodes_in, trees_in, parts, size, option_size}
 use Rattle.wiki_pages.specs.CaseTables.{Same, fresh, default_in, size_in}
 use Rattle.wiki_pages.specs.declared.forest.Forest.{Forest}
-use Rattle.wiki_pages.specs.declared.cases.Landing.{Landing}
+use Rattle.wiki_pages.specs.declared.tables.Landing.{Landing}
 use Rattle.wiki_pages.specs.declared.passing.Further.{Further}
 
 -- the default that was set on the way, or the one before

@@ -1,9 +1,9 @@
-//! Where a `#switch` goes on with a value: a table of the names of a run of its parts.
-ghost use Rattle.std.specs.Prelude.{◌≡◌, ◌+◌, ◌-◌, ◌∷◌, [], ◌++◌, ◌||◌, false, cond, ℕ, List, Some, None, IfOk, OnOk};
+//! A run of parts of a `#switch` as it is read: the first part of each name, and where the run stops.
+ghost use Rattle.std.specs.Prelude.{◌≡◌, ◌∷◌, [], ◌++◌, ◌||◌, false, cond, List, Some, IfOk, OnOk};
 ghost use Rattle.indexmap.specs.IndexMap.{hasher_of};
 ghost use Rattle.wiki_markup.specs.Nodes.{Node};
 ghost use Rattle.expand_texts.specs.ExpandMeaningExpand.{is_default as is_default_of};
-ghost use Rattle.wiki_pages.specs.CaseTables.{size_hash, text_hash, hash_of as hash_of_name, find_in, Notes, Passes, IsRight};
+ghost use Rattle.wiki_pages.specs.CaseTables.{size_hash, text_hash, lower_half, hash_of as hash_of_name, find_in, Notes, Passes, IsRightRun};
 
 use expand_texts::equality::number_of;
 use indexmap::IndexMap;
@@ -34,23 +34,14 @@ pub struct Stop {
     pub(crate) default: Option<Stretch>,
 }
 
-/// A run of parts with constant names: the first part of each name, by the hash of the name, and the valued parts. A part that
-/// is equal leads to the next valued one, or to the stop; a value that no part is equal to leads to the stop.
+/// A run of parts with constant names: the first part of each name, by the hash of the name, and the valued parts.
 #[derive(Drop)]
-pub struct CaseTable {
-    pub(crate) cases: IndexMap<u64, Case, RandomState>,
+pub struct CaseRun {
+    pub(crate) cases: IndexMap<u32, Case, RandomState>,
     pub(crate) values: Vec<u32>,
     pub(crate) stop: Stop,
     /// Where the parts of the `#switch` end.
     pub(crate) end: usize,
-}
-
-/// Where a value leads, and whether an equal part stands in front of it: to where the run stops, or to the part that gives
-/// the value, in front of which nothing else need be known.
-#[derive(Clone, Copy)]
-pub struct Landing {
-    pub(crate) met: bool,
-    pub(crate) stop: Stop,
 }
 
 /// Whether a name is that of the default.
@@ -78,14 +69,21 @@ fn text_hash(seed: RandomState, text: &[u8]) -> u64
     hasher.finish()
 }
 
+/// The lower half of a hash: half the memory, and among a million names some hundred collide.
+fn lower_half(hash: u64) -> u32
+    ensures { result ≡ lower_half hash }
+{
+    (hash % 4_294_967_296) as u32
+}
+
 /// The hash of a name. Equal names have one hash: that of a number is of its size. No page can choose names that collide.
 #[tactic(auto, unfolding(crate::specs::CaseTables::hash_of))]
-pub fn hash_of(seed: RandomState, name: &[u8]) -> u64
+pub fn hash_of(seed: RandomState, name: &[u8]) -> u32
     ensures { result ≡ hash_of_name seed name.now }
 {
     match number_of(name) {
-        Some((_, size)) => size_hash(seed, size),
-        None => text_hash(seed, name),
+        Some((_, size)) => lower_half(size_hash(seed, size)),
+        None => lower_half(text_hash(seed, name)),
     }
 }
 
@@ -100,7 +98,7 @@ fn small(place: usize) -> Result<u32, NoMemory>
 }
 
 /// A case is noted, unless one of that hash is there.
-fn note(cases: &mut IndexMap<u64, Case, RandomState>, hash: u64, case: Case) -> Result<(), NoMemory>
+fn note(cases: &mut IndexMap<u32, Case, RandomState>, hash: u32, case: Case) -> Result<(), NoMemory>
     ensures notes { OnOk result (Notes (find_in cases.old) (find_in cases.new) hash case) }
     ensures hasher { hasher_of cases.new ≡ hasher_of cases.old }
 {
@@ -142,14 +140,14 @@ fn waits_behind(stop: Stop, name: &[u8]) -> bool
     stop.waits || is_default(name)
 }
 
-impl CaseTable {
+impl CaseRun {
     /// The run of no parts.
-    pub fn new(alloc: Global, seed: RandomState, at: usize, end: usize) -> CaseTable
-        ensures right { (nodes : List Node) → IsRight nodes at result }
+    pub fn new(alloc: Global, seed: RandomState, at: usize, end: usize) -> CaseRun
+        ensures right { (nodes : List Node) → IsRightRun nodes at result }
         ensures end { result.end ≡ end }
         ensures at { result.stop.at ≡ at }
     {
-        CaseTable {
+        CaseRun {
             cases: IndexMap::with_hasher(alloc, seed),
             values: Vec::new(alloc),
             stop: Stop {
@@ -200,13 +198,5 @@ impl CaseTable {
             default,
         };
         Ok(())
-    }
-
-    /// Gives back the memory that was kept for more parts.
-    pub fn shrink(&mut self)
-        ensures { (nodes : List Node) (at : ℕ) → IsRight nodes at self.old → IsRight nodes at self.new }
-    {
-        self.cases.shrink_to_fit();
-        self.values.shrink_to_fit();
     }
 }

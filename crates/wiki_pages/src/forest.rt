@@ -7,8 +7,8 @@ ghost use Rattle.expand_texts.specs.Ropes.{bytes_of};
 ghost use Rattle.wiki_pages.specs.Forests.{nodes_in, trees_in, text_in, size, parts, Splits, Falls, Stays, Amid, Behind, option_trees, option_size, OptionAmid, GoesPast, PastFalls, PastAmid};
 ghost use Rattle.wiki_pages.specs.CaseTables.{IsRight};
 
-use crate::cases::CaseTable;
 use crate::held::HeldText;
+use crate::tables::CaseTable;
 use expand_texts::rope::Piece;
 use std::alloc::Global;
 use std::rc::Rc;

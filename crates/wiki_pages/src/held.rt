@@ -3,8 +3,8 @@ ghost use Rattle.std.specs.Prelude.{◌≡◌, length, slice_get, option_map, If
 ghost use Rattle.wiki_markup.specs.Views.{node_seen};
 ghost use Rattle.wiki_pages.specs.CaseTables.{IsRight};
 
-use crate::cases::CaseTable;
 use crate::preparing::tables_of;
+use crate::tables::CaseTable;
 use indexmap::IndexMap;
 use std::alloc::Global;
 use std::hash::RandomState;

@@ -3,8 +3,8 @@
 //! - `pages`: the pages by title, each with its text as it is read and as it is included
 //! - `forest`: trees, as a stretch of nodes
 //! - `passing`: where a `#switch` goes on behind parts that cannot decide
-//! - `cases`: the tables of the parts of switches; `constants`: parts with constant names
-//! - `held`: a text with its tables; `preparing`: how these are made
+//! - `cases`: a run of parts of a `#switch`, as it is read; `constants`: parts with constant names
+//! - `tables`: the table of a run; `held`: a text with its tables; `preparing`: how these are made
 //!
 //! Begin with `specs/Forests.antt` and `specs/Furthers.antt`, which are all that callers see; `specs/CaseTables.antt` says
 //! what is kept true of the tables.
@@ -17,6 +17,7 @@ mod held;
 mod pages;
 mod passing;
 mod preparing;
+mod tables;
 
 pub use cases::is_default;
 pub use forest::{Forest, Split};

@@ -7,9 +7,10 @@ ghost use Rattle.wiki_pages.specs.Forests.{nodes_in, option_size};
 ghost use Rattle.wiki_pages.specs.Furthers.{default_or, GoesTo, LeadsTo};
 ghost use Rattle.wiki_pages.specs.CaseTables.{constant_name, equals_name, default_in, size_in, IsRight, Lands, LandsBehind};
 
-use crate::cases::{Case, CaseTable, Landing, Stop, Stretch, hash_of};
+use crate::cases::{Case, Stop, Stretch, hash_of};
 use crate::constants::{Constant, read_constant};
 use crate::forest::Forest;
+use crate::tables::{CaseTable, Landing, case_of};
 use expand_texts::equality::are_equal;
 use expand_texts::trim;
 use wiki_markup::NoMemory;
@@ -72,12 +73,12 @@ fn lands_at(table: &CaseTable, run: &Forest<'_>, value: &[u8]) -> Result<Option<
     requires end { table.now.end ≡ run.now.end }
     ensures { IfOk result (λ landing. IfSome landing (Lands value.now (nodes_in run.now.nodes) run.now.at table.now)) }
 {
-    let hash = hash_of(*table.cases.hasher(), value);
-    match table.cases.get(&hash) {
+    let hash = hash_of(table.seed, value);
+    match case_of(table.cases.as_slice(), hash) {
         None => Ok(Some(at_stop(table, false))),
         Some(case) => {
             if is_named(run, case.at as usize, value)? {
-                return Ok(Some(behind_equal(table, *case)));
+                return Ok(Some(behind_equal(table, case)));
             }
             Ok(None)
         }

@@ -3,12 +3,13 @@ ghost use Rattle.std.specs.Prelude.{◌≡◌, ◌+◌, ◌-◌, ◌<◌, ◌≤
 ghost use Rattle.wiki_markup.specs.Nodes.{Node};
 ghost use Rattle.wiki_pages.specs.Stretches.{parts_from};
 ghost use Rattle.wiki_pages.specs.Forests.{nodes_in, trees_in, parts, size, Amid};
-ghost use Rattle.wiki_pages.specs.CaseTables.{IsRight, AreRight};
+ghost use Rattle.wiki_pages.specs.CaseTables.{IsRightRun, AreRight};
 
-use crate::cases::{CaseTable, Stretch};
+use crate::cases::{CaseRun, Stretch};
 use crate::constants::{Constant, read_constant};
 use crate::forest::{Forest, Nodes, Split};
 use crate::held::{HeldText, Tables};
+use crate::tables::table_of;
 use expand_texts::rope::Piece;
 use expand_texts::trim;
 use indexmap::IndexMap;
@@ -17,15 +18,15 @@ use std::hash::RandomState;
 use wiki_markup::{KindView, NoMemory, NodeView};
 
 /// A run of fewer nodes than these has no table: to go through it costs no more than to look for it.
-const LEAST_NODES: usize = 32;
+const LEAST_NODES: usize = 64;
 
 /// The part at the stop of a run is passed, if its name is constant and it isn't a valueless last one, which decides.
-fn pass(table: &mut CaseTable, part: &Forest<'_>, next: &Forest<'_>) -> Result<bool, NoMemory>
+fn pass(table: &mut CaseRun, part: &Forest<'_>, next: &Forest<'_>) -> Result<bool, NoMemory>
     requires first { parts_from (nodes_in next.now.nodes) table.old.end table.old.stop.at ≡ trees_in part.now ∷ parts next.now }
     requires amid { Amid part.now next.now }
     requires end { next.now.end ≡ table.old.end }
     requires falls { size part.now + size next.now < table.old.end - table.old.stop.at }
-    ensures right { OnOk result ((at : ℕ) → IsRight (nodes_in next.now.nodes) at table.old → IsRight (nodes_in next.now.nodes) at table.new) }
+    ensures right { OnOk result ((at : ℕ) → IsRightRun (nodes_in next.now.nodes) at table.old → IsRightRun (nodes_in next.now.nodes) at table.new) }
     ensures end { OnOk result (table.new.end ≡ table.old.end) }
     ensures falls { IfOk result (λ passed. passed ≡ true → table.new.end - table.new.stop.at < table.old.end - table.old.stop.at) }
 {
@@ -50,9 +51,9 @@ fn pass(table: &mut CaseTable, part: &Forest<'_>, next: &Forest<'_>) -> Result<b
 }
 
 /// The next part of a run is passed, if it can be.
-fn pass_next(table: &mut CaseTable, run: &Forest<'_>) -> Result<bool, NoMemory>
+fn pass_next(table: &mut CaseRun, run: &Forest<'_>) -> Result<bool, NoMemory>
     requires { table.old.end ≡ run.now.end }
-    ensures right { OnOk result ((at : ℕ) → IsRight (nodes_in run.now.nodes) at table.old → IsRight (nodes_in run.now.nodes) at table.new) }
+    ensures right { OnOk result ((at : ℕ) → IsRightRun (nodes_in run.now.nodes) at table.old → IsRightRun (nodes_in run.now.nodes) at table.new) }
     ensures end { OnOk result (table.new.end ≡ table.old.end) }
     ensures falls { IfOk result (λ passed. passed ≡ true → table.new.end - table.new.stop.at < table.old.end - table.old.stop.at) }
 {
@@ -63,12 +64,12 @@ fn pass_next(table: &mut CaseTable, run: &Forest<'_>) -> Result<bool, NoMemory>
     }
 }
 
-/// The table of the parts in front whose names are constant.
-fn case_table(alloc: Global, seed: RandomState, parts: &Forest<'_>) -> Result<CaseTable, NoMemory>
-    ensures right { IfOk result (λ t. IsRight (nodes_in parts.now.nodes) parts.now.at t) }
+/// The run of the parts in front whose names are constant.
+fn case_run(alloc: Global, seed: RandomState, parts: &Forest<'_>) -> Result<CaseRun, NoMemory>
+    ensures right { IfOk result (λ t. IsRightRun (nodes_in parts.now.nodes) parts.now.at t) }
     ensures end { IfOk result (λ t. t.end ≡ parts.now.end) }
 {
-    let mut table = CaseTable::new(alloc, seed, parts.at, parts.end);
+    let mut table = CaseRun::new(alloc, seed, parts.at, parts.end);
     loop {
         if !pass_next(&mut table, parts)? {
             return Ok(table);
@@ -76,15 +77,14 @@ fn case_table(alloc: Global, seed: RandomState, parts: &Forest<'_>) -> Result<Ca
     }
 }
 
-/// A table is kept, if its run is long enough.
-fn keep(tables: &mut Tables, at: usize, table: CaseTable) -> Result<(), NoMemory>
-    ensures { OnOk result ((nodes : List Node) → AreRight nodes tables.old → IsRight nodes at table → AreRight nodes tables.new) }
+/// The table of a run is kept, if the run is long enough.
+fn keep(alloc: Global, tables: &mut Tables, at: usize, run: CaseRun) -> Result<(), NoMemory>
+    ensures { OnOk result ((nodes : List Node) → AreRight nodes tables.old → IsRightRun nodes at run → AreRight nodes tables.new) }
 {
-    if table.stop.at.saturating_sub(at) < LEAST_NODES {
+    if run.stop.at.saturating_sub(at) < LEAST_NODES {
         return Ok(());
     }
-    let mut table = table;
-    table.shrink();
+    let table = table_of(alloc, run)?;
     match tables.insert(at, table) {
         Ok(_) => Ok(()),
         Err(_) => Err(NoMemory),
@@ -102,9 +102,9 @@ fn add_run(
     ensures right { OnOk result (AreRight (nodes_in parts.now.nodes) tables.new) }
     ensures falls { IfOk result (λ stop. parts.now.end - stop ≤ size parts.now) }
 {
-    let table = case_table(alloc, seed, parts)?;
-    let stop = table.stop.at;
-    keep(tables, parts.at, table)?;
+    let run = case_run(alloc, seed, parts)?;
+    let stop = run.stop.at;
+    keep(alloc, tables, parts.at, run)?;
     Ok(stop)
 }
 

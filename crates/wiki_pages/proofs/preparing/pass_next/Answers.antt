@@ -1,7 +1,7 @@
 use Rattle.std.proofs.Common.{◌≡◌, ◌+◌, ◌<◌, ◌∙◌, ◌∷◌, ℕ, sym, subst, arith}
 use Rattle.std.specs.Prelude.{OnOk}
 use Rattle.wiki_pages.specs.Forests.{trees_in, parts, size, Amid, Behind}
-use Rattle.wiki_pages.specs.CaseTables.{IsRight}
+use Rattle.wiki_pages.specs.CaseTables.{IsRightRun}
 use Rattle.wiki_pages.proofs.TableLaws.{next_first}
 use Rattle.wiki_pages.proofs.preparing.pass_next.Goals as goal
 
@@ -20,4 +20,4 @@ pass-requires c =
 pub returns-in-Some-clause-right : goal.returns-in-Some-clause-right
 returns-in-Some-clause-right c =
     let stays : Amid c.in-Some.part c.in_ok-rest.rest × Behind c.in-Some.next c.in_ok-rest.rest = rw c.in-Some.is at c.in_ok-part.ensures.stays in
-    subst (λ ns. OnOk c.pass.result ((at : ℕ) → IsRight ns at c.args.table.now → IsRight ns at c.pass.new.table)) (stays.1.0 ∙ c.in_ok-rest.ensures.nodes) c.pass.ensures.right
+    subst (λ ns. OnOk c.pass.result ((at : ℕ) → IsRightRun ns at c.args.table.now → IsRightRun ns at c.pass.new.table)) (stays.1.0 ∙ c.in_ok-rest.ensures.nodes) c.pass.ensures.right

@@ -3,7 +3,7 @@ use Rattle.std.proofs.lemmas.Result.{on_ok_weaker}
 use Rattle.indexmap.specs.IndexMap.{hasher_of}
 use Rattle.wiki_pages.specs.CaseTables.{hash_of, find_in}
 use Rattle.wiki_pages.proofs.TableLaws.{noted_as}
-use Rattle.wiki_pages.proofs.cases.CaseTable.note_name.Goals as goal
+use Rattle.wiki_pages.proofs.cases.CaseRun.note_name.Goals as goal
 
 pub returns : goal.returns
 returns c = on_ok_weaker c.note.result

@@ -1,7 +1,7 @@
 use Rattle.std.proofs.Common.{◌∙◌, ◌||◌, ◌++◌, ◌∷◌, [], false, cond, Some, ap}
 use Rattle.expand_texts.specs.ExpandMeaningExpand.{is_default}
 use Rattle.wiki_pages.specs.declared.cases.Stop.{Stop}
-use Rattle.wiki_pages.proofs.cases.CaseTable.pass_valued.Goals as goal
+use Rattle.wiki_pages.proofs.cases.CaseRun.pass_valued.Goals as goal
 
 pub returns : goal.returns
 returns c =
