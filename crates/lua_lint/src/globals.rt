@@ -1,7 +1,7 @@
 //! The globals that a module uses.
-ghost use Rattle.std.specs.Prelude.{◌≡◌, [], IfOk, OnOk, option_map};
+ghost use Rattle.std.specs.Prelude.{◌≡◌, [], ◌++◌, IfOk, OnOk, option_map};
 ghost use Rattle.std.specs.BTreeSet.{insert_key};
-ghost use Rattle.lua_uses.specs.Modules.{hides, hidden_in, first_hidden, by_bytes, with_uses, names_from, uses};
+ghost use Rattle.lua_uses.specs.Modules.{hides, hidden_in, first_hidden, by_bytes, with_uses, names_from, answer_of, uses};
 ghost use Rattle.lua_lint.specs.Seen.{use_seen, uses_seen};
 ghost use Rattle.lua_lint.specs.Reading.{modules_seen, reads_seen, names_in, unknown_seen, answer_seen};
 
@@ -14,7 +14,7 @@ use wk_base::{Bytes, List, NoMemory};
 
 /// A place at which it can't be told which globals are used, or which modules are reached: `_G`, or a `require` that isn't called with one
 /// text. It is a line of a module, which is told by its place in the list.
-#[derive(Clone, Copy, Debug, PartialEq, Eq)]
+#[derive(Clone, Copy, PartialEq, Eq)]
 pub struct UnknownAt {
     pub module: usize,
     pub line: u32,
@@ -84,19 +84,56 @@ fn add_uses<'t>(names: &mut BTreeSet<&'t [u8]>, uses: &[Use<'t>]) -> Result<(), 
     Ok(())
 }
 
+/// The names that these modules use.
+fn add_all<'t>(names: &mut BTreeSet<&'t [u8]>, reads: &[Read<'t>]) -> Result<(), NoMemory>
+    ensures { OnOk result (names_in names.new.keys ≡ names_from (names_in names.old.keys) (reads_seen reads.now)) }
+{
+    for read in reads {
+        add_uses(names, read.uses.as_slice())?;
+    }
+    Ok(())
+}
+
+/// Copies of these names, behind others.
+fn copy_all(
+    alloc: Global,
+    names: &BTreeSet<&[u8]>,
+    copies: &mut List<Bytes>,
+) -> Result<(), NoMemory>
+    ensures { OnOk result (copies.new ≡ copies.old ++ names_in names.now.keys) }
+{
+    for name in names {
+        copies.push(Bytes::of(alloc, name)?)?;
+    }
+    Ok(())
+}
+
+/// Copies of these names.
+fn copies(alloc: Global, names: &BTreeSet<&[u8]>) -> Result<List<Bytes>, NoMemory>
+    ensures { IfOk result (λ copies. copies ≡ names_in names.now.keys) }
+{
+    let mut copies = List::new(alloc);
+    copy_all(alloc, names, &mut copies)?;
+    Ok(copies)
+}
+
 /// The names that these modules use, each once, in the order of their bytes.
 fn names_of(alloc: Global, reads: &[Read<'_>]) -> Result<List<Bytes>, NoMemory>
     ensures { IfOk result (λ names. names ≡ names_from [] (reads_seen reads.now)) }
 {
-    let mut set = BTreeSet::new(alloc);
-    for read in reads {
-        add_uses(&mut set, read.uses.as_slice())?;
+    let mut names = BTreeSet::new(alloc);
+    add_all(&mut names, reads)?;
+    copies(alloc, &names)
+}
+
+/// The globals that these modules use, or the first place that hides others.
+fn answer(alloc: Global, reads: &[Read<'_>]) -> Result<GlobalUses, NoMemory>
+    ensures { IfOk result (λ answer. answer_seen answer ≡ answer_of (reads_seen reads.now)) }
+{
+    match first_hidden(reads) {
+        Some(at) => Ok(GlobalUses::Unknown(at)),
+        None => Ok(GlobalUses::Names(names_of(alloc, reads)?)),
     }
-    let mut names = List::new(alloc);
-    for name in set {
-        names.push(Bytes::of(alloc, name)?)?;
-    }
-    Ok(names)
 }
 
 /// The globals that a module uses, with those that it requires and that are in the list; or where it can't be told which they are. Titles
@@ -110,8 +147,5 @@ pub fn uses(
     ensures { IfOk result (λ answer. answer_seen answer ≡ uses (modules_seen modules.now) root) }
 {
     let reads = read_all(alloc, seed, modules, root)?;
-    match first_hidden(reads.as_slice()) {
-        Some(at) => Ok(GlobalUses::Unknown(at)),
-        None => Ok(GlobalUses::Names(names_of(alloc, reads.as_slice())?)),
-    }
+    answer(alloc, reads.as_slice())
 }

@@ -23,6 +23,19 @@ pub(crate) struct Use<'t> {
     pub(crate) required: Option<&'t Bytes>,
 }
 
+/// The places where a text names globals, behind others.
+fn find_uses<'t>(
+    alloc: Global,
+    seed: RandomState,
+    chunk: &'t Chunk,
+    out: &mut List<Use<'t>>,
+) -> Result<(), NoMemory>
+    ensures { OnOk result (Finds out.old out.new (text_uses (chunk_view chunk.now))) }
+{
+    let mut scope = Scope::new(alloc, seed);
+    block(&chunk.body, &mut scope, out)
+}
+
 /// Where a text names globals. Names are hashed by the seed, so that no text can choose names that collide.
 pub(crate) fn text_uses<'t>(
     alloc: Global,
@@ -31,9 +44,8 @@ pub(crate) fn text_uses<'t>(
 ) -> Result<List<Use<'t>>, NoMemory>
     ensures { IfOk result (λ uses. uses_seen uses ≡ text_uses (chunk_view chunk.now)) }
 {
-    let mut scope = Scope::new(alloc, seed);
     let mut out = List::new(alloc);
-    block(&chunk.body, &mut scope, &mut out)?;
+    find_uses(alloc, seed, chunk, &mut out)?;
     Ok(out)
 }
 

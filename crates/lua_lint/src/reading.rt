@@ -1,6 +1,6 @@
 //! The modules that are reached, and where their texts name globals.
-ghost use Rattle.std.specs.Prelude.{◌≡◌, IfOk, OnOk, Some, option_map, List as Items};
-ghost use Rattle.lua_uses.specs.Modules.{place_named, place_required, with_place, with_required, uses_at, read_at, reads, Named as PlainNamed};
+ghost use Rattle.std.specs.Prelude.{◌≡◌, [], ◌∷◌, ◌++◌, IfOk, OnOk, Some, option_map, length, map, List as Items};
+ghost use Rattle.lua_uses.specs.Modules.{place_named, place_required, with_place, with_required, uses_at, read_at, reach, reads, Named as PlainNamed};
 ghost use Rattle.lua_lint.specs.Seen.{uses_seen};
 ghost use Rattle.lua_lint.specs.Reading.{modules_seen, ArePlaced, IsPutAt, place_at, read_seen, reads_seen};
 
@@ -41,6 +41,19 @@ fn put_place<'m>(places: &mut PlaceMap<'m>, title: &'m Title, place: usize) -> R
     }
 }
 
+/// The place of each title is put into a map without one. Of two modules of one title the first counts.
+fn put_places<'m>(places: &mut PlaceMap<'m>, modules: &'m [Named]) -> Result<(), NoMemory>
+    requires { places.old.entries ≡ [] }
+    ensures { OnOk result (ArePlaced (modules_seen modules.now) places.new.entries) }
+{
+    let mut place = modules.len();
+    while place > 0 {
+        place -= 1;
+        put_place(places, &modules[place].title, place)?;
+    }
+    Ok(())
+}
+
 /// The place of each title. Of two modules of one title the first counts.
 fn places_of<'m>(
     alloc: Global,
@@ -50,11 +63,7 @@ fn places_of<'m>(
     ensures { IfOk result (λ places. ArePlaced (modules_seen modules.now) places.entries) }
 {
     let mut places = IndexMap::with_hasher(alloc, seed);
-    let mut place = modules.len();
-    while place > 0 {
-        place -= 1;
-        put_place(&mut places, &modules[place].title, place)?;
-    }
+    put_places(&mut places, modules)?;
     Ok(places)
 }
 
@@ -159,6 +168,76 @@ fn read_on<'m>(
     Ok(read)
 }
 
+/// The module of a place is read behind these.
+fn read_behind<'m>(
+    alloc: Global,
+    seed: RandomState,
+    modules: &'m [Named],
+    places: &PlaceMap<'m>,
+    place: usize,
+    seen: &mut Reached,
+    all: &mut List<Read<'m>>,
+) -> Result<(), NoMemory>
+    ensures all { OnOk result (reads_seen all.new ≡ reads_seen all.old ++ read_at (modules_seen modules.now) place ∷ []) }
+    ensures seen { OnOk result (ArePlaced (modules_seen modules.now) places.now.entries → seen.new.keys ≡ with_required (modules_seen modules.now) seen.old.keys (uses_at (modules_seen modules.now) place)) }
+{
+    all.push(read_on(alloc, seed, modules, places, place, seen)?)?;
+    Ok(())
+}
+
+/// The modules that are reached are read behind these, and so are those that they reach.
+fn read_reached<'m>(
+    alloc: Global,
+    seed: RandomState,
+    modules: &'m [Named],
+    places: &PlaceMap<'m>,
+    seen: &mut Reached,
+    all: &mut List<Read<'m>>,
+) -> Result<(), NoMemory>
+    requires { ArePlaced (modules_seen modules.now) places.now.entries }
+    ensures { OnOk result (reads_seen all.new ≡ reads_seen all.old ++ map (read_at (modules_seen modules.now)) (reach (modules_seen modules.now) (length modules.now) 0 seen.old.keys)) }
+{
+    for next in 0..modules.len() {
+        let Some(place) = seen.get_index(next).copied() else {
+            return Ok(());
+        };
+        read_behind(alloc, seed, modules, places, place, seen, all)?;
+    }
+    Ok(())
+}
+
+/// The modules that are reached are read.
+fn gathered<'m>(
+    alloc: Global,
+    seed: RandomState,
+    modules: &'m [Named],
+    places: &PlaceMap<'m>,
+    seen: &mut Reached,
+) -> Result<List<Read<'m>>, NoMemory>
+    requires { ArePlaced (modules_seen modules.now) places.now.entries }
+    ensures { IfOk result (λ rs. reads_seen rs ≡ map (read_at (modules_seen modules.now)) (reach (modules_seen modules.now) (length modules.now) 0 seen.old.keys)) }
+{
+    let mut all = List::new(alloc);
+    read_reached(alloc, seed, modules, places, seen, &mut all)?;
+    Ok(all)
+}
+
+/// The modules that are reached from one of these are read.
+fn read_from<'m>(
+    alloc: Global,
+    seed: RandomState,
+    modules: &'m [Named],
+    places: &PlaceMap<'m>,
+    root: usize,
+) -> Result<List<Read<'m>>, NoMemory>
+    requires { ArePlaced (modules_seen modules.now) places.now.entries }
+    ensures { IfOk result (λ rs. reads_seen rs ≡ reads (modules_seen modules.now) root) }
+{
+    let mut seen = IndexSet::with_hasher(alloc, seed);
+    reach(&mut seen, root)?;
+    gathered(alloc, seed, modules, places, &mut seen)
+}
+
 /// The modules that are reached from one of these, in the order in which they are reached first. Titles and names are hashed by the seed.
 pub(crate) fn read_all<'m>(
     alloc: Global,
@@ -169,14 +248,5 @@ pub(crate) fn read_all<'m>(
     ensures { IfOk result (λ rs. reads_seen rs ≡ reads (modules_seen modules.now) root) }
 {
     let places = places_of(alloc, seed, modules)?;
-    let mut seen = IndexSet::with_hasher(alloc, seed);
-    reach(&mut seen, root)?;
-    let mut all = List::new(alloc);
-    for next in 0..modules.len() {
-        let Some(place) = seen.get_index(next).copied() else {
-            return Ok(all);
-        };
-        all.push(read_on(alloc, seed, modules, &places, place, &mut seen)?)?;
-    }
-    Ok(all)
+    read_from(alloc, seed, modules, &places, root)
 }

@@ -1,6 +1,6 @@
 use Rattle.std.proofs.Common.{◌≡◌, ◌-◌, ◌<◌, suc, length, arith}
 use Rattle.lua_lint.proofs.ReadingLemmas.{one_placed}
-use Rattle.lua_lint.proofs.reading.places_of.Goals as goal
+use Rattle.lua_lint.proofs.reading.put_places.Goals as goal
 
 pub loop-place-preserved : goal.loop-place-preserved
 loop-place-preserved c =

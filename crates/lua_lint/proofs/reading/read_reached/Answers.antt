@@ -1,9 +1,8 @@
-use Rattle.std.proofs.Common.{◌≡◌, ◌∙◌, ◌+◌, ◌-◌, ◌<◌, ◌++◌, ◌∷◌, [], suc, sym, ap, length, arith}
+use Rattle.std.proofs.Common.{◌≡◌, ◌∙◌, ◌+◌, ◌-◌, ◌<◌, suc, sym, length, arith}
 use Rattle.std.specs.Prelude.{Some, None, slice_get}
-use Rattle.lua_uses.specs.Modules.{Read, read_at}
 use Rattle.lua_lint.specs.Reading.{modules_seen, reads_seen}
-use Rattle.lua_lint.proofs.ReadingLemmas.{reach_none, read_more, reads_end, reads_next}
-use Rattle.lua_lint.proofs.reading.read_all.Goals as goal
+use Rattle.lua_lint.proofs.ReadingLemmas.{reach_none, reads_end, reads_next}
+use Rattle.lua_lint.proofs.reading.read_reached.Goals as goal
 
 pub returns-in_default : goal.returns-in_default
 returns-in_default c =
@@ -18,9 +17,5 @@ loop-next-preserved c =
     let after : c.loop-next.next + 1 ≡ suc c.loop-next.next = omega arith in
     let less : c.loop-next.next < length c.args.modules.now = omega arith in
     let some : slice_get c.loop-next.seen.keys c.loop-next.next ≡ Some c.in-Some.place = sym (c.in-Some.ensures ∙ c.get_index.ensures.key) in
-    let longer : reads_seen c.push.new.self ≡ reads_seen c.loop-next.all ++ read_at modules place ∷ [] =
-    ap reads_seen c.in_ok-push.ensures.ok
-    ∙ read_more c.loop-next.all c.in_ok-read_on.field-0
-    ∙ ap (λ (r : Read). reads_seen c.loop-next.all ++ r ∷ []) c.in_ok-read_on.ensures.read in
-    reads_next modules (length c.args.modules.now) c.loop-next.next (c.loop-next.next + 1) c.loop-next.seen.keys c.read_on.new.seen.keys place
-    (reads_seen c.loop-next.all) (reads_seen c.push.new.self) _ after less some (c.in_ok-read_on.ensures.seen c.in_ok-places.ensures) longer c.loop-next.invariant
+    reads_next modules (length c.args.modules.now) c.loop-next.next (c.loop-next.next + 1) c.loop-next.seen.keys c.read_behind.new.seen.keys place
+    (reads_seen c.loop-next.all) (reads_seen c.read_behind.new.all) _ after less some (c.in_ok-read_behind.ensures.seen c.requires) c.in_ok-read_behind.ensures.all c.loop-next.invariant
