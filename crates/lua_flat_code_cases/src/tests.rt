@@ -1,10 +1,7 @@
 //! Texts with their counts, worked out by hand: the nodes that begin are what the operations charge.
+use crate::made::made_of;
 use crate::{Counts, counts_of, target_at};
-use lua_code::NoMemory;
-use lua_flat_code::{Functions, MOST, Operand, Wanted, make};
-use lua_parser::parse;
-use lua_resolve::resolve;
-use lua_syntax::SyntaxFault;
+use lua_flat_code::{MOST, Operand, Wanted};
 use std::alloc::Global;
 use std::hash::RandomState;
 use std::process::Abort;
@@ -108,17 +105,6 @@ const ROWS: [Row; 9] = [
         functions: 1,
     },
 ];
-
-/// The code of a text.
-fn made_of(alloc: Global, seed: RandomState, text: &[u8]) -> Result<Functions, Fail> {
-    if text.len() >= 4000000000 {
-        return Err(Fail::from(NoMemory));
-    }
-    let chunk = parse(alloc, text)?;
-    let protos = resolve(alloc, seed, &chunk)?;
-    let made = make(alloc, protos)?;
-    Ok(made)
-}
 
 /// The code of a text has these counts.
 fn check(
