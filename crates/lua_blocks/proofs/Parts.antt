@@ -1,5 +1,6 @@
 -- How moves of statements are made of parts.
 use Rattle.std.proofs.Common.{◌≡◌, ◌∙◌, ◌+◌, Bool, true, false, refl, sym, ap, subst, ℕ, List, [], ◌∷◌}
+use Rattle.std.specs.Prelude.{Result, Ok, Err, IfOk, OnOk}
 use Rattle.page_run.specs.WkBaseDeclaredLeftLeft.{Left}
 use Rattle.page_run.specs.declared.which.Which.TheVariants.{Steps}
 use Rattle.lua_code.specs.LuaHeapValue as kind
@@ -128,6 +129,16 @@ paid_arm s u t m l k l' mv p r of later still e ended more same ends =
     from_paid s u t m m l k l' (mv (frames_of s m) (slots_of s m)) p r refl later (unless s u p still)
     (λ told i.
     e (frames_of s m) (slots_of s m) m.calls (record told { height = m.height; nodes = i }) refl ∙ seen_later s u m p (funds_of k m told i) of later) ended more same ends
+
+-- the same where the end is the last call
+pub paid_ends : {E : Type 0} (s u t : StoreView) (m : State) (l k l' : Left) (mv : List SFrame → Slots → Move) (p : Paid) (r : Result Turn E) → StateOf s m → IsLater s u → IfStopped p (u ≡ s)
+    → ((fs : List SFrame) (x : Slots) (in_progress : ℕ) (tally : Tally) → x.heap ≡ s.heap
+    → enact (mv fs x) (record { left = l; in_progress = in_progress; tally = tally }) ≡ paid_seen u p fs (with_heap u.heap x) (record { left = k; in_progress = in_progress; tally = tally }))
+    → IfOk r (λ y. StateOf t m × TurnOf t y) → OnOk r (IsLater u t) → OnOk r (t.heap ≡ u.heap)
+    → IfOk r (λ y. (told : Tally) (i : ℕ) → paid_seen u p (frames_of u m) (slots_of u m) (funds_of k m told i) ≡ turn_seen t m y (funds_of l' m told i))
+    → IfOk r (λ y. Makes s m l t m l' (mv (frames_of s m) (slots_of s m)) y)
+paid_ends s u t m l k l' mv p (Ok y) of later still e ended more same ends = paid_arm s u t m l k l' mv p y of later still e ended more same ends
+paid_ends s u t m l k l' mv p (Err x) of later still e ended more same ends = tt
 
 -- ONE MOVE OR THE OTHER
 pub first_chosen : (b : Bool) (x y z : Move) → true ≡ b → x ≡ z → choose b x y ≡ z

@@ -40,11 +40,9 @@ fn choose_branch<'m>(
         ≡ step_seen store.now r (frames_seen store.now.texts frames.new) s) }
 {
     if is_true(value) {
-        let step = within(store, frames, regs, body)?;
-        return Ok(step);
+        return within(store, frames, regs, body);
     }
-    let step = branches(alloc, store, frames, regs, more, other)?;
-    Ok(step)
+    branches(alloc, store, frames, regs, more, other)
 }
 
 /// A test of an `if` gave this value.

@@ -61,8 +61,7 @@ fn set_entry<'m>(
         (indices.set_index (seen store.old.texts of) (seen store.old.texts entry.0) (seen store.old.texts entry.1) (Some line) (frames_of store.old state.now) (slots_of store.old state.now)) r) }
 {
     let paid = set_index(alloc, store, &state.env, left, of, entry, Some(line))?;
-    let turn = finish_paid(alloc, store, left, state, paid)?;
-    Ok(turn)
+    finish_paid(alloc, store, left, state, paid)
 }
 
 /// A global variable whose name is this text gets a value: an entry of the table of global variables (manual 2.3).

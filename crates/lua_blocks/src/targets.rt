@@ -163,12 +163,10 @@ fn find_first<'m, L: Ledger>(
     match target {
         Target::Variable(place) => {
             let target = Found::Variable(*place);
-            let turn = found(store, state, target, rest, before, values)?;
-            Ok(turn)
+            found(store, state, target, rest, before, values)
         }
         Target::Global(name, line) => {
-            let turn = find_global(alloc, store, state, *name, *line, rest, before, values)?;
-            Ok(turn)
+            find_global(alloc, store, state, *name, *line, rest, before, values)
         }
         Target::At(of, key, line) => {
             let whole = Finding {
@@ -180,10 +178,7 @@ fn find_first<'m, L: Ledger>(
             let waiting = InAssignment::TargetKey(key, *line, finding);
             entry(store, left, state, of, waiting, turns)
         }
-        Target::Refused => {
-            let turn = refuse(store, state)?;
-            Ok(turn)
-        }
+        Target::Refused => refuse(store, state),
     }
 }
 

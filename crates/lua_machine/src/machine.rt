@@ -169,8 +169,8 @@ impl<'m> Machine<'m> {
         ensures frame { OnOk result (Frame nowhere store.old.heap store.new.heap) }
         ensures later { OnOk result (IsLater store.old store.new) }
     {
-        let state = fresh_state(alloc, store, seed, world)?;
         let work = boxed(alloc, work)?;
+        let state = fresh_state(alloc, store, seed, world)?;
         Ok(Machine {
             alloc,
             state,

@@ -77,10 +77,7 @@ pub fn call<'m, L: Ledger>(
     requires arguments { ValuesOf store.old arguments.now }
     ensures { IfOk result (MayFollow store.old state.old (Gives (Goes (values_seen store.old.texts arguments.now)) (frames_of store.old state.old)) left.old turns.old store.new state.new left.new turns.new) }
 {
-    if left.steps == 0 {
-        return Ok(None);
-    }
-    if left.calls == 0 {
+    if !may_enter(left) {
         return Ok(None);
     }
     match of_newest(&state.frames) {
@@ -114,10 +111,7 @@ pub fn call_one<'m, L: Ledger>(
     requires argument { IsOf store.old argument }
     ensures { IfOk result (MayFollow store.old state.old (Gives (Goes (seen store.old.texts argument ∷ [])) (frames_of store.old state.old)) left.old turns.old store.new state.new left.new turns.new) }
 {
-    if left.steps == 0 {
-        return Ok(None);
-    }
-    if left.calls == 0 {
+    if !may_enter(left) {
         return Ok(None);
     }
     match callee_of(store, called) {

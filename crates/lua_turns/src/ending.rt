@@ -9,8 +9,7 @@ ghost use Rattle.lua_operators.specs.LuaStackDeclaredFrameFrameTheVariants as fr
 ghost use Rattle.lua_loops.specs.LuaStateOf.{StateOf};
 ghost use Rattle.lua_loops.specs.LuaStateSeen.{frames_of};
 ghost use Rattle.lua_operators.specs.LuaStoreSeen.{StoreView};
-ghost use Rattle.lua_strides.specs.Next.{focus_of};
-ghost use Rattle.lua_turns.specs.Rows.{Follows, IsNewest, MayFollow};
+ghost use Rattle.lua_turns.specs.Rows.{IsNewest, MayFollow};
 
 use crate::branching::end_while;
 use crate::counting::end_count;
@@ -25,34 +24,34 @@ use lua_strides::Next;
 use std::sync::ledger::Ledger;
 
 /// A block is at its end.
-fn end_block<'m>(state: &mut State<'m>, depth: usize) -> Next<'m>
+fn end_block<'m>(state: &mut State<'m>, depth: usize) -> Result<Option<Next<'m>>, NoMemory>
     requires { IsNewest state.old.frames (frame_kind.End (ending_kind.BlockEnd depth)) }
-    ensures { (s : StoreView) (l : Allowance) (k : ℕ) (values : Items Plain) → StateOf s state.old → Follows s state.old (Gives (Goes values) (frames_of s state.old)) l k s state.new l k (focus_of result) }
+    ensures { (s : StoreView) (l : Allowance) (k : ℕ) (values : Items Plain) → StateOf s state.old → IfOk result (MayFollow s state.old (Gives (Goes values) (frames_of s state.old)) l k s state.new l k) }
 {
     keep_oldest(&mut state.regs, depth);
     drop_newest(&mut state.frames);
-    Next::GivesNone
+    Ok(Some(Next::GivesNone))
 }
 
 /// The body of a function is at its end.
-fn end_body<'m>(left: &mut Left, state: &mut State<'m>) -> Result<Next<'m>, NoMemory>
+fn end_body<'m>(left: &mut Left, state: &mut State<'m>) -> Result<Option<Next<'m>>, NoMemory>
     requires { IsNewest state.old.frames (frame_kind.End ending_kind.BodyEnd) }
-    ensures { (s : StoreView) (k : ℕ) (values : Items Plain) → StateOf s state.old → IfOk result (λ r. Follows s state.old (Gives (Goes values) (frames_of s state.old)) left.old k s state.new left.new k (focus_of r)) }
+    ensures { (s : StoreView) (k : ℕ) (values : Items Plain) → StateOf s state.old → IfOk result (MayFollow s state.old (Gives (Goes values) (frames_of s state.old)) left.old k s state.new left.new k) }
 {
     drop_newest(&mut state.frames);
     leave_function(&mut state.regs, &mut state.functions);
     leave_call(state, left)?;
-    Ok(Next::GivesNone)
+    Ok(Some(Next::GivesNone))
 }
 
 /// A function of the library has given nothing: its call ends.
-fn end_library<'m>(left: &mut Left, state: &mut State<'m>) -> Result<Next<'m>, NoMemory>
+fn end_library<'m>(left: &mut Left, state: &mut State<'m>) -> Result<Option<Next<'m>>, NoMemory>
     requires { IsNewest state.old.frames (frame_kind.End ending_kind.LibraryEnd) }
-    ensures { (s : StoreView) (k : ℕ) → StateOf s state.old → IfOk result (λ r. Follows s state.old (Gives (Goes []) (frames_of s state.old)) left.old k s state.new left.new k (focus_of r)) }
+    ensures { (s : StoreView) (k : ℕ) → StateOf s state.old → IfOk result (MayFollow s state.old (Gives (Goes []) (frames_of s state.old)) left.old k s state.new left.new k) }
 {
     drop_newest(&mut state.frames);
     leave_call(state, left)?;
-    Ok(Next::GivesNone)
+    Ok(Some(Next::GivesNone))
 }
 
 /// Nothing reaches the newest frame.
@@ -67,15 +66,9 @@ pub fn end<'m, L: Ledger>(
 {
     match of_newest(&state.frames) {
         Waiting::Statements(rest) => Ok(Some(go_on(state, rest))),
-        Waiting::Block(depth) => Ok(Some(end_block(state, depth))),
-        Waiting::Body => {
-            let next = end_body(left, state)?;
-            Ok(Some(next))
-        }
-        Waiting::Library => {
-            let next = end_library(left, state)?;
-            Ok(Some(next))
-        }
+        Waiting::Block(depth) => end_block(state, depth),
+        Waiting::Body => end_body(left, state),
+        Waiting::Library => end_library(left, state),
         Waiting::Repeats(depth, test, body) => Ok(Some(end_while(state, depth, test, body))),
         Waiting::Counts(count) => end_count(store, left, state, count, turns),
         _ => Ok(None),

@@ -53,15 +53,15 @@ fn take_operand<'m, L: Ledger>(
     line: u32,
     value: Value,
     turns: &mut Steps<L>,
-) -> Next<'m>
+) -> Result<Option<Next<'m>>, NoMemory>
     requires state { StateOf store.now state.old }
     requires newest { IsNewest state.old.frames (frame_kind.Expression (in_expression.OperandNext op b line)) }
     requires value { IsOf store.now value }
-    ensures { Follows store.now state.old (Gives (Goes (seen store.now.texts value ∷ [])) (frames_of store.now state.old)) left.old turns.old store.now state.new left.new turns.new (focus_of result) }
+    ensures { IfOk result (MayFollow store.now state.old (Gives (Goes (seen store.now.texts value ∷ [])) (frames_of store.now state.old)) left.old turns.old store.now state.new left.new turns.new) }
 {
     let frame = Frame::Expression(InExpression::OperateNow(op, value, line));
     swap_newest(&mut state.frames, frame);
-    next_of(store, left, state, b, turns)
+    Ok(Some(next_of(store, left, state, b, turns)))
 }
 
 /// An operator has its second operand.
@@ -72,38 +72,42 @@ fn operate<'m>(
     a: Value,
     line: u32,
     value: Value,
-) -> Option<Next<'m>>
+) -> Result<Option<Next<'m>>, NoMemory>
     requires state { StateOf store.now state.old }
     requires newest { IsNewest state.old.frames (frame_kind.Expression (in_expression.OperateNow op a line)) }
     requires value { IsOf store.now value }
-    ensures { (l : Allowance) (k : ℕ) → MayFollow store.now state.old (Gives (Goes (seen store.now.texts value ∷ [])) (frames_of store.now state.old)) l k store.now state.new l k result }
+    ensures { (l : Allowance) (k : ℕ) → IfOk result (MayFollow store.now state.old (Gives (Goes (seen store.now.texts value ∷ [])) (frames_of store.now state.old)) l k store.now state.new l k) }
 {
     match operated(store, &state.env, op, a, value) {
         Some(value) => {
             drop_newest(&mut state.frames);
-            Some(Next::Gives(value))
+            Ok(Some(Next::Gives(value)))
         }
-        None => None,
+        None => Ok(None),
     }
 }
 
 /// A list has its one value.
-fn end_list<'m>(state: &mut State<'m>, rest: &'m [Expression], value: Value) -> Next<'m>
+fn end_list<'m>(
+    state: &mut State<'m>,
+    rest: &'m [Expression],
+    value: Value,
+) -> Result<Option<Next<'m>>, NoMemory>
     requires none { rest.now ≡ [] }
     requires newest { IsNewest state.old.frames (frame_kind.Expression (in_expression.MoreNext rest [])) }
-    ensures { (s : StoreView) (l : Allowance) (k : ℕ) → StateOf s state.old → IsOf s value → Follows s state.old (Gives (Goes (seen s.texts value ∷ [])) (frames_of s state.old)) l k s state.new l k (focus_of result) }
+    ensures { (s : StoreView) (l : Allowance) (k : ℕ) → StateOf s state.old → IsOf s value → IfOk result (MayFollow s state.old (Gives (Goes (seen s.texts value ∷ [])) (frames_of s state.old)) l k s state.new l k) }
 {
     drop_newest(&mut state.frames);
-    Next::Gives(value)
+    Ok(Some(Next::Gives(value)))
 }
 
 /// A `return` has its value.
-fn begin_return<'m>(state: &mut State<'m>, value: Value) -> Next<'m>
+fn begin_return<'m>(state: &mut State<'m>, value: Value) -> Result<Option<Next<'m>>, NoMemory>
     requires { IsNewest state.old.frames (frame_kind.Statement in_statement.ReturnNow) }
-    ensures { (s : StoreView) (l : Allowance) (k : ℕ) → StateOf s state.old → IsOf s value → Follows s state.old (Gives (Goes (seen s.texts value ∷ [])) (frames_of s state.old)) l k s state.new l k (focus_of result) }
+    ensures { (s : StoreView) (l : Allowance) (k : ℕ) → StateOf s state.old → IsOf s value → IfOk result (MayFollow s state.old (Gives (Goes (seen s.texts value ∷ [])) (frames_of s state.old)) l k s state.new l k) }
 {
     drop_newest(&mut state.frames);
-    Next::Returns(value)
+    Ok(Some(Next::Returns(value)))
 }
 
 /// A declaration of one variable has its value.
@@ -130,12 +134,16 @@ fn declare<'m>(
 }
 
 /// The one target of an assignment has its value, which is still to be set.
-fn assign<'m>(state: &mut State<'m>, target: Found, value: Value) -> Next<'m>
+fn assign<'m>(
+    state: &mut State<'m>,
+    target: Found,
+    value: Value,
+) -> Result<Option<Next<'m>>, NoMemory>
     requires { IsNewest state.old.frames (frame_kind.Assignment (in_assignment.AssignNow (target ∷ []))) }
-    ensures { (s : StoreView) (l : Allowance) (k : ℕ) → StateOf s state.old → IsOf s value → Follows s state.old (Gives (Goes (seen s.texts value ∷ [])) (frames_of s state.old)) l k s state.new l k (focus_of result) }
+    ensures { (s : StoreView) (l : Allowance) (k : ℕ) → StateOf s state.old → IsOf s value → IfOk result (MayFollow s state.old (Gives (Goes (seen s.texts value ∷ [])) (frames_of s state.old)) l k s state.new l k) }
 {
     drop_newest(&mut state.frames);
-    Next::Sets(Setting { target, value })
+    Ok(Some(Next::Sets(Setting { target, value })))
 }
 
 /// A function of the library has given its one value: its call ends.
@@ -143,13 +151,13 @@ fn end_library<'m>(
     left: &mut Left,
     state: &mut State<'m>,
     value: Value,
-) -> Result<Next<'m>, NoMemory>
+) -> Result<Option<Next<'m>>, NoMemory>
     requires { IsNewest state.old.frames (frame_kind.End ending_kind.LibraryEnd) }
-    ensures { (s : StoreView) (k : ℕ) → StateOf s state.old → IsOf s value → IfOk result (λ r. Follows s state.old (Gives (Goes (seen s.texts value ∷ [])) (frames_of s state.old)) left.old k s state.new left.new k (focus_of r)) }
+    ensures { (s : StoreView) (k : ℕ) → StateOf s state.old → IsOf s value → IfOk result (MayFollow s state.old (Gives (Goes (seen s.texts value ∷ [])) (frames_of s state.old)) left.old k s state.new left.new k) }
 {
     drop_newest(&mut state.frames);
     leave_call(state, left)?;
-    Ok(Next::Gives(value))
+    Ok(Some(Next::Gives(value)))
 }
 
 /// A value reaches the newest frame, where that waits in an expression.
@@ -169,12 +177,11 @@ fn give_operand<'m, L: Ledger>(
 {
     match waits {
         Waiting::Operand(op, b, line) => {
-            let next = take_operand(store, left, state, op, b, line, value, turns);
-            Ok(Some(next))
+            take_operand(store, left, state, op, b, line, value, turns)
         }
         Waiting::Joins(a, line) => join(alloc, store, left, state, a, line, value),
-        Waiting::Operates(op, a, line) => Ok(operate(store, state, op, a, line, value)),
-        Waiting::Last(rest) => Ok(Some(end_list(state, rest, value))),
+        Waiting::Operates(op, a, line) => operate(store, state, op, a, line, value),
+        Waiting::Last(rest) => end_list(state, rest, value),
         Waiting::Item(rest) => take_item(alloc, store, left, state, rest, value, turns),
         Waiting::First => Ok(Some(give_first(state, value))),
         Waiting::Decides(deciding, b) => Ok(Some(decide(state, deciding, b, value))),
@@ -214,14 +221,11 @@ pub fn give<'m, L: Ledger>(
     match waits {
         Waiting::Statements(rest) => Ok(Some(go_on(state, rest))),
         Waiting::Declares(flags, rest) => declare(store, state, flags, rest, value),
-        Waiting::Returns => Ok(Some(begin_return(state, value))),
-        Waiting::Assigns(target) => Ok(Some(assign(state, target, value))),
+        Waiting::Returns => begin_return(state, value),
+        Waiting::Assigns(target) => assign(state, target, value),
         Waiting::Branches(body, more, other) => Ok(Some(choose(state, body, more, other, value))),
         Waiting::Tests(e, body) => Ok(take_test(left, state, e, body, value, turns)),
-        Waiting::Library => {
-            let next = end_library(left, state, value)?;
-            Ok(Some(next))
-        }
+        Waiting::Library => end_library(left, state, value),
         _ => give_operand(alloc, store, left, state, waits, value, turns),
     }
 }

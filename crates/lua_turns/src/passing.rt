@@ -11,8 +11,7 @@ ghost use Rattle.lua_loops.specs.LuaStateOf.{StateOf};
 ghost use Rattle.lua_loops.specs.LuaStateSeen.{frames_of};
 ghost use Rattle.lua_operators.specs.LuaStoreParts.{IsOf};
 ghost use Rattle.lua_operators.specs.LuaStoreSeen.{StoreView, seen};
-ghost use Rattle.lua_strides.specs.Next.{focus_of};
-ghost use Rattle.lua_turns.specs.Rows.{Follows, IsNewest, MayFollow};
+ghost use Rattle.lua_turns.specs.Rows.{IsNewest, MayFollow};
 
 use crate::leaving::leave_function;
 use crate::waiting::{Count, Waiting, drop_newest, of_newest};
@@ -23,32 +22,44 @@ use lua_operators::{Left, Store, Value};
 use lua_strides::Next;
 
 /// The statements behind are passed by.
-fn pass_statements<'m>(state: &mut State<'m>, rest: &'m [Statement], value: Value) -> Next<'m>
+fn pass_statements<'m>(
+    state: &mut State<'m>,
+    rest: &'m [Statement],
+    value: Value,
+) -> Result<Option<Next<'m>>, NoMemory>
     requires { IsNewest state.old.frames (frame_kind.Statement (in_statement.StatsNext rest)) }
-    ensures { (s : StoreView) (l : Allowance) (k : ℕ) → StateOf s state.old → IsOf s value → Follows s state.old (Gives (Jumps (Returned (seen s.texts value ∷ []))) (frames_of s state.old)) l k s state.new l k (focus_of result) }
+    ensures { (s : StoreView) (l : Allowance) (k : ℕ) → StateOf s state.old → IsOf s value → IfOk result (MayFollow s state.old (Gives (Jumps (Returned (seen s.texts value ∷ []))) (frames_of s state.old)) l k s state.new l k) }
 {
     drop_newest(&mut state.frames);
-    Next::Returns(value)
+    Ok(Some(Next::Returns(value)))
 }
 
 /// A block is left.
-fn pass_block<'m>(state: &mut State<'m>, depth: usize, value: Value) -> Next<'m>
+fn pass_block<'m>(
+    state: &mut State<'m>,
+    depth: usize,
+    value: Value,
+) -> Result<Option<Next<'m>>, NoMemory>
     requires { IsNewest state.old.frames (frame_kind.End (ending_kind.BlockEnd depth)) }
-    ensures { (s : StoreView) (l : Allowance) (k : ℕ) → StateOf s state.old → IsOf s value → Follows s state.old (Gives (Jumps (Returned (seen s.texts value ∷ []))) (frames_of s state.old)) l k s state.new l k (focus_of result) }
+    ensures { (s : StoreView) (l : Allowance) (k : ℕ) → StateOf s state.old → IsOf s value → IfOk result (MayFollow s state.old (Gives (Jumps (Returned (seen s.texts value ∷ []))) (frames_of s state.old)) l k s state.new l k) }
 {
     keep_oldest(&mut state.regs, depth);
     drop_newest(&mut state.frames);
-    Next::Returns(value)
+    Ok(Some(Next::Returns(value)))
 }
 
 /// A counting loop is left.
-fn pass_count<'m>(state: &mut State<'m>, count: Count<'m>, value: Value) -> Next<'m>
+fn pass_count<'m>(
+    state: &mut State<'m>,
+    count: Count<'m>,
+    value: Value,
+) -> Result<Option<Next<'m>>, NoMemory>
     requires { IsNewest state.old.frames (frame_kind.End (ending_kind.CountEnd count.depth count.boxed count.index count.limit count.step count.body)) }
-    ensures { (s : StoreView) (l : Allowance) (k : ℕ) → StateOf s state.old → IsOf s value → Follows s state.old (Gives (Jumps (Returned (seen s.texts value ∷ []))) (frames_of s state.old)) l k s state.new l k (focus_of result) }
+    ensures { (s : StoreView) (l : Allowance) (k : ℕ) → StateOf s state.old → IsOf s value → IfOk result (MayFollow s state.old (Gives (Jumps (Returned (seen s.texts value ∷ []))) (frames_of s state.old)) l k s state.new l k) }
 {
     keep_oldest(&mut state.regs, count.depth);
     drop_newest(&mut state.frames);
-    Next::Returns(value)
+    Ok(Some(Next::Returns(value)))
 }
 
 /// A `while` is left.
@@ -58,24 +69,28 @@ fn pass_while<'m>(
     test: &'m Expression,
     body: &'m List<Statement>,
     value: Value,
-) -> Next<'m>
+) -> Result<Option<Next<'m>>, NoMemory>
     requires { IsNewest state.old.frames (frame_kind.End (ending_kind.WhileEnd depth test body)) }
-    ensures { (s : StoreView) (l : Allowance) (k : ℕ) → StateOf s state.old → IsOf s value → Follows s state.old (Gives (Jumps (Returned (seen s.texts value ∷ []))) (frames_of s state.old)) l k s state.new l k (focus_of result) }
+    ensures { (s : StoreView) (l : Allowance) (k : ℕ) → StateOf s state.old → IsOf s value → IfOk result (MayFollow s state.old (Gives (Jumps (Returned (seen s.texts value ∷ []))) (frames_of s state.old)) l k s state.new l k) }
 {
     keep_oldest(&mut state.regs, depth);
     drop_newest(&mut state.frames);
-    Next::Returns(value)
+    Ok(Some(Next::Returns(value)))
 }
 
 /// A function is left: it gives the value.
-fn pass_body<'m>(left: &mut Left, state: &mut State<'m>, value: Value) -> Result<Next<'m>, NoMemory>
+fn pass_body<'m>(
+    left: &mut Left,
+    state: &mut State<'m>,
+    value: Value,
+) -> Result<Option<Next<'m>>, NoMemory>
     requires { IsNewest state.old.frames (frame_kind.End ending_kind.BodyEnd) }
-    ensures { (s : StoreView) (k : ℕ) → StateOf s state.old → IsOf s value → IfOk result (λ r. Follows s state.old (Gives (Jumps (Returned (seen s.texts value ∷ []))) (frames_of s state.old)) left.old k s state.new left.new k (focus_of r)) }
+    ensures { (s : StoreView) (k : ℕ) → StateOf s state.old → IsOf s value → IfOk result (MayFollow s state.old (Gives (Jumps (Returned (seen s.texts value ∷ []))) (frames_of s state.old)) left.old k s state.new left.new k) }
 {
     drop_newest(&mut state.frames);
     leave_function(&mut state.regs, &mut state.functions);
     leave_call(state, left)?;
-    Ok(Next::Gives(value))
+    Ok(Some(Next::Gives(value)))
 }
 
 /// A `return` of this value reaches the newest frame.
@@ -90,16 +105,11 @@ pub fn pass<'m>(
     ensures { (k : ℕ) → IfOk result (MayFollow store.now state.old (Gives (Jumps (Returned (seen store.now.texts value ∷ []))) (frames_of store.now state.old)) left.old k store.now state.new left.new k) }
 {
     match of_newest(&state.frames) {
-        Waiting::Statements(rest) => Ok(Some(pass_statements(state, rest, value))),
-        Waiting::Block(depth) => Ok(Some(pass_block(state, depth, value))),
-        Waiting::Repeats(depth, test, body) => {
-            Ok(Some(pass_while(state, depth, test, body, value)))
-        }
-        Waiting::Counts(count) => Ok(Some(pass_count(state, count, value))),
-        Waiting::Body => {
-            let next = pass_body(left, state, value)?;
-            Ok(Some(next))
-        }
+        Waiting::Statements(rest) => pass_statements(state, rest, value),
+        Waiting::Block(depth) => pass_block(state, depth, value),
+        Waiting::Repeats(depth, test, body) => pass_while(state, depth, test, body, value),
+        Waiting::Counts(count) => pass_count(state, count, value),
+        Waiting::Body => pass_body(left, state, value),
         _ => Ok(None),
     }
 }

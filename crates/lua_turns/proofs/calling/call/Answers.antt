@@ -31,3 +31,9 @@ returns-in-None g c = idle_here c.args.store.now c.args.state.now c.args.left.no
 
 pub returns-in_default : goal.returns-in_default
 returns-in_default g c = idle_here c.args.store.now c.args.state.now c.args.left.now c.args.turns.now
+
+pub enter-requires-clause-steps : goal.enter-requires-clause-steps
+enter-requires-clause-steps g c = (c.may_enter.ensures c.if-not-may_enter.false).0
+
+pub enter-requires-clause-calls : goal.enter-requires-clause-calls
+enter-requires-clause-calls g c = (c.may_enter.ensures c.if-not-may_enter.false).1

@@ -17,14 +17,14 @@ returns-in-Block g c = c.end_block.ensures c.args.store.now c.args.left.now c.ar
 pub end_body-requires : goal.end_body-requires
 end_body-requires g c = rw c.in-Body.is at c.of_newest.ensures
 
-pub returns-in_ok-next-in-Body : goal.returns-in_ok-next-in-Body
-returns-in_ok-next-in-Body g c = c.in_ok-next-in-Body.ensures c.args.store.now c.args.turns.now [] c.requires
+pub returns-in-Body : goal.returns-in-Body
+returns-in-Body g c = c.end_body.ensures c.args.store.now c.args.turns.now [] c.requires
 
 pub end_library-requires : goal.end_library-requires
 end_library-requires g c = rw c.in-Library.is at c.of_newest.ensures
 
-pub returns-in_ok-next-in-Library : goal.returns-in_ok-next-in-Library
-returns-in_ok-next-in-Library g c = c.in_ok-next-in-Library.ensures c.args.store.now c.args.turns.now c.requires
+pub returns-in-Library : goal.returns-in-Library
+returns-in-Library g c = c.end_library.ensures c.args.store.now c.args.turns.now c.requires
 
 pub end_while-requires : goal.end_while-requires
 end_while-requires g c = rw c.in-Repeats.is at c.of_newest.ensures

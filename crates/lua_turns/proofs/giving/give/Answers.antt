@@ -39,8 +39,8 @@ returns-in-Tests g c = c.take_test.ensures c.args.store.now c.requires.state c.r
 pub end_library-requires : goal.end_library-requires
 end_library-requires g c = rw c.in-Library.is at c.of_newest-waits.ensures
 
-pub returns-in_ok-next-in-Library : goal.returns-in_ok-next-in-Library
-returns-in_ok-next-in-Library g c = c.in_ok-next-in-Library.ensures c.args.store.now c.args.turns.now c.requires.state c.requires.value
+pub returns-in-Library : goal.returns-in-Library
+returns-in-Library g c = c.end_library.ensures c.args.store.now c.args.turns.now c.requires.state c.requires.value
 
 pub give_operand-requires-clause-waits : goal.give_operand-requires-clause-waits
 give_operand-requires-clause-waits g c = c.of_newest-waits.ensures

@@ -61,11 +61,11 @@ call_one-requires-clause-newest g c = rw c.in-Calls.is at c.requires.waits
 pub returns-in-Calls : goal.returns-in-Calls
 returns-in-Calls g c = c.call_one.ensures
 
-pub take_operand-next-requires-clause-newest : goal.take_operand-next-requires-clause-newest
-take_operand-next-requires-clause-newest g c = rw c.in-Operand.is at c.requires.waits
+pub take_operand-requires-clause-newest : goal.take_operand-requires-clause-newest
+take_operand-requires-clause-newest g c = rw c.in-Operand.is at c.requires.waits
 
 pub returns-in-Operand : goal.returns-in-Operand
-returns-in-Operand g c = c.take_operand-next.ensures
+returns-in-Operand g c = c.take_operand.ensures
 
 pub take_item-requires-clause-newest : goal.take_item-requires-clause-newest
 take_item-requires-clause-newest g c = rw c.in-Item.is at c.requires.waits

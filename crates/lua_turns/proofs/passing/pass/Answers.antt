@@ -28,8 +28,8 @@ returns-in-Repeats c = λ k. c.pass_while.ensures c.args.store.now c.args.left.n
 pub pass_body-requires : goal.pass_body-requires
 pass_body-requires c = rw c.in-Body.is at c.of_newest.ensures
 
-pub returns-in_ok-next-in-Body : goal.returns-in_ok-next-in-Body
-returns-in_ok-next-in-Body c = λ k. c.in_ok-next-in-Body.ensures c.args.store.now k c.requires.state c.requires.value
+pub returns-in-Body : goal.returns-in-Body
+returns-in-Body c = λ k. c.pass_body.ensures c.args.store.now k c.requires.state c.requires.value
 
 pub returns-in_default : goal.returns-in_default
 returns-in_default c = λ k. idle_here c.args.store.now c.args.state.now c.args.left.now k
